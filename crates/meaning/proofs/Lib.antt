@@ -1,0 +1,4 @@
+-- Theorems about the rules. `Theorems` first: the statements, with what each rests on.
+pub mod Rectangles
+pub mod Order
+pub mod Bound

@@ -1,0 +1,1 @@
+// What the rules mean: theorems about the definitions of `rules`. No code.

@@ -1,0 +1,2 @@
+-- Laws of the tests: what they tell, and what they are told by.
+pub mod Tests

@@ -1,0 +1,259 @@
+-- What a test tells and what tells a test, once for each: every, any, least, total, keep, all, chain, tab. Assumes nothing.
+use mathlib.Core.Path.{_≡_, refl, sym, ap, ap₂, _∙_, subst}
+use mathlib.Core.Bool.{Bool, true, false, not, cond, _&&_, _||_, true≢false, false≢true}
+use mathlib.Core.Logic.{_⊎_, inl, inr, ⊎-elim}
+use mathlib.Core.List.{List, [], _∷_, _++_, List·Memᴰ, List·Memᴰ·head, List·Memᴰ·tail, List·Memᴰ·not-nil, List·Memᴰ·cases-cons, List·Memᴰ·append-cases, Memᴰ·append-left, Memᴰ·append-right, Memᴰ·cast}
+use Prim.Native.Nat.{ℕ, zero, suc, _+_, _*_, _≤_, _<_}
+use native.Mathlib.Nat.{le-refl, eq-or-lt-of-le, le-of-suc-le-suc}
+use native.Mathlib.Omega.{arith}
+use lib.ListN.{length, getD, length-append}
+use lib.IntN.{ℤ, pos, negsuc}
+use lib.Dec.{eqb}
+use borrow.Author.Tests.{eqb-true, eq-eqb}
+use Rattle.rules.specs.Tests.{every, any, total, count, leastFrom, least, eqZ, tabFrom, tab, put, keep, all, chain}
+
+-- ---- Bools
+
+pub and-left : (a b : Bool) → (a && b) ≡ true → a ≡ true
+and-left true b e = refl
+and-left false b e = e
+
+pub and-right : (a b : Bool) → (a && b) ≡ true → b ≡ true
+and-right true b e = e
+and-right false b e = absurd (false≢true e)
+
+pub and-both : {a b : Bool} → a ≡ true → b ≡ true → (a && b) ≡ true
+and-both p q = ap₂ _&&_ p q
+
+-- four tests in a row
+pub and-four : (a b c d : Bool) → (a && b && c && d) ≡ true → (a ≡ true) × (b ≡ true) × (c ≡ true) × (d ≡ true)
+and-four a b c d e =
+    let f = and-left (a && b && c) d e in
+    let g = and-left (a && b) c f in
+    (and-left a b g, and-right a b g, and-right (a && b) c f, and-right (a && b && c) d e)
+
+pub four-and : {a b c d : Bool} → a ≡ true → b ≡ true → c ≡ true → d ≡ true → (a && b && c && d) ≡ true
+four-and p q r s = and-both (and-both (and-both p q) r) s
+
+-- which of the two fails
+pub and-fails : (a b : Bool) → (a && b) ≡ false → (a ≡ false) ⊎ (b ≡ false)
+and-fails true b e = inr e
+and-fails false b e = inl refl
+
+pub or-which : (a b : Bool) → (a || b) ≡ true → (a ≡ true) ⊎ (b ≡ true)
+or-which true b e = inl refl
+or-which false b e = inr e
+
+pub or-left : (a b : Bool) → a ≡ true → (a || b) ≡ true
+or-left a b p = ap (λ c. c || b) p
+
+pub or-right : (a b : Bool) → b ≡ true → (a || b) ≡ true
+or-right true b p = refl
+or-right false b p = p
+
+pub or-neither : (a b : Bool) → (a || b) ≡ false → (a ≡ false) × (b ≡ false)
+or-neither true b e = absurd (true≢false e)
+or-neither false b e = (refl, e)
+
+-- a test comes out one way or the other
+pub decide : (b : Bool) → (b ≡ true) ⊎ (b ≡ false)
+decide true = inl refl
+decide false = inr refl
+
+pub not-both : {A : Type 0} (b : Bool) → b ≡ true → b ≡ false → A
+not-both b p q = absurd (true≢false (sym p ∙ q))
+
+-- it is false if it can't be true
+pub fails : (b : Bool) → (b ≡ true → ⊥) → b ≡ false
+fails true n = absurd (n refl)
+fails false n = refl
+
+-- ---- every
+
+pub every-at : (n : ℕ) (p : ℕ → Bool) → every n p ≡ true → (k : ℕ) → k < n → p k ≡ true
+unfolding every
+every-at zero p e k h = absurd (omega arith)
+every-at (suc n) p e k h =
+    ⊎-elim
+    (λ (q : k ≡ n). ap p q ∙ and-right (every n p) (p n) e)
+    (λ (q : k < n). every-at n p (and-left (every n p) (p n) e) k q)
+    (eq-or-lt-of-le (le-of-suc-le-suc h))
+
+pub every-yes : (n : ℕ) (p : ℕ → Bool) → ((k : ℕ) → k < n → p k ≡ true) → every n p ≡ true
+unfolding every
+every-yes zero p h = refl
+every-yes (suc n) p h = and-both (every-yes n p (λ k l. h k (omega arith))) (h n (omega arith))
+
+-- where it fails
+pub every-fails : (n : ℕ) (p : ℕ → Bool) → every n p ≡ false → (k : ℕ) × (k < n) × (p k ≡ false)
+unfolding every
+every-fails zero p e = absurd (true≢false e)
+every-fails (suc n) p e =
+    ⊎-elim
+    (λ (q : every n p ≡ false). let w = every-fails n p q in (w .0, omega (arith, w .1), w .2))
+    (λ (q : p n ≡ false). (n, omega arith, q))
+    (and-fails (every n p) (p n) e)
+
+-- ---- any
+
+pub any-yes : (n : ℕ) (p : ℕ → Bool) (k : ℕ) → k < n → p k ≡ true → any n p ≡ true
+unfolding any
+any-yes zero p k h e = absurd (omega arith)
+any-yes (suc n) p k h e =
+    ⊎-elim
+    (λ (q : k ≡ n). or-right (any n p) (p n) (ap p (sym q) ∙ e))
+    (λ (q : k < n). or-left (any n p) (p n) (any-yes n p k q e))
+    (eq-or-lt-of-le (le-of-suc-le-suc h))
+
+pub any-at : (n : ℕ) (p : ℕ → Bool) → any n p ≡ true → (k : ℕ) × (k < n) × (p k ≡ true)
+unfolding any
+any-at zero p e = absurd (false≢true e)
+any-at (suc n) p e =
+    ⊎-elim
+    (λ (q : any n p ≡ true). let w = any-at n p q in (w .0, omega (arith, w .1), w .2))
+    (λ (q : p n ≡ true). (n, omega arith, q))
+    (or-which (any n p) (p n) e)
+
+pub any-none : (n : ℕ) (p : ℕ → Bool) → any n p ≡ false → (k : ℕ) → k < n → p k ≡ false
+any-none n p e k h = fails (p k) (λ q. true≢false (sym (any-yes n p k h q) ∙ e))
+
+pub none-any : (n : ℕ) (p : ℕ → Bool) → ((k : ℕ) → k < n → p k ≡ false) → any n p ≡ false
+none-any n p h = fails (any n p) (λ q. let w = any-at n p q in true≢false (sym (w .2) ∙ h (w .0) (w .1)))
+
+-- ---- least
+
+-- what leastFrom a n p comes to: none of the n numbers, or the first of them for which p holds
+pub record Least (a n : ℕ) (p : ℕ → Bool) (k : ℕ) : Type 0 where
+  pub from : a ≤ k
+  pub upto : k ≤ a + n
+  pub before : (j : ℕ) → a ≤ j → j < k → p j ≡ false
+  pub here : k < a + n → p k ≡ true
+
+pub leastFrom-is : (a n : ℕ) (p : ℕ → Bool) → Least a n p (leastFrom a n p)
+unfolding leastFrom
+leastFrom-is a zero p = record { from = le-refl a; upto = omega arith; before = λ j f l. absurd (omega arith); here = λ l. absurd (omega arith) }
+leastFrom-is a (suc n) p = go (p a) refl (leastFrom-is (suc a) n p)
+  where
+    go : (b : Bool) → p a ≡ b → Least (suc a) n p (leastFrom (suc a) n p) → Least a (suc n) p (cond b a (leastFrom (suc a) n p))
+    go true e r = record { from = le-refl a; upto = omega arith; before = λ j f l. absurd (omega arith); here = λ l. e }
+    go false e r = record {
+      from = omega (arith, r .from);
+      upto = omega (arith, r .upto);
+      before = λ j f l. ⊎-elim (λ (q : a ≡ j). ap p (sym q) ∙ e) (λ (q : a < j). r .before j q l) (eq-or-lt-of-le f);
+      here = λ l. r .here (omega arith);
+    }
+
+pub least-is : (n : ℕ) (p : ℕ → Bool) → Least 0 n p (least n p)
+least-is n p = leastFrom-is 0 n p
+
+-- ---- total
+
+pub total-same : (n : ℕ) (f g : ℕ → ℕ) → ((k : ℕ) → k < n → f k ≡ g k) → total n f ≡ total n g
+unfolding total
+total-same zero f g h = refl
+total-same (suc n) f g h = ap₂ _+_ (total-same n f g (λ k l. h k (omega arith))) (h n (omega arith))
+
+-- ---- signed numbers
+
+pub eqZ-true : (a b : ℤ) → eqZ a b ≡ true → a ≡ b
+eqZ-true (pos a) (pos b) e = ap pos (eqb-true a b e)
+eqZ-true (pos a) (negsuc b) e = absurd (false≢true e)
+eqZ-true (negsuc a) (pos b) e = absurd (false≢true e)
+eqZ-true (negsuc a) (negsuc b) e = ap negsuc (eqb-true a b e)
+
+pub eqZ-same : (a : ℤ) → eqZ a a ≡ true
+eqZ-same (pos a) = eq-eqb a a refl
+eqZ-same (negsuc a) = eq-eqb a a refl
+
+-- ---- tab
+
+pub length-tabFrom : {A : Type 0} (a n : ℕ) (f : ℕ → A) → length (tabFrom a n f) ≡ n
+unfolding tabFrom
+length-tabFrom a zero f = refl
+length-tabFrom a (suc n) f = ap suc (length-tabFrom (suc a) n f)
+
+pub getD-tabFrom : {A : Type 0} (a n k : ℕ) (f : ℕ → A) (d : A) → k < n → getD (tabFrom a n f) k d ≡ f (a + k)
+unfolding tabFrom
+getD-tabFrom a zero k f d h = absurd (omega arith)
+getD-tabFrom a (suc n) zero f d h = ap f (let q : a ≡ a + 0 = omega arith in q)
+getD-tabFrom a (suc n) (suc k) f d h = getD-tabFrom (suc a) n k f d (omega arith) ∙ ap f (let q : suc a + k ≡ a + suc k = omega arith in q)
+
+pub length-tab : {A : Type 0} (n : ℕ) (f : ℕ → A) → length (tab n f) ≡ n
+length-tab n f = length-tabFrom 0 n f
+
+pub getD-tab : {A : Type 0} (n k : ℕ) (f : ℕ → A) (d : A) → k < n → getD (tab n f) k d ≡ f k
+getD-tab n k f d h = getD-tabFrom 0 n k f d h ∙ ap f (let q : 0 + k ≡ k = omega arith in q)
+
+-- ---- keep
+
+module _ {A : Type 0} (p : A → Bool) where
+  pub keep-all : (l : List A) → ((a : A) → List·Memᴰ a l → p a ≡ true) → keep p l ≡ l
+  unfolding keep
+  keep-all [] h = refl
+  keep-all (x ∷ l) h = ap₂ (λ b m. put b x m) (h x (List·Memᴰ·head refl)) (keep-all l (λ a m. h a (List·Memᴰ·tail m)))
+
+module _ {A : Type 0} (p : A → Bool) where
+  pub keep-mem : {a : A} (l : List A) → List·Memᴰ a l → p a ≡ true → List·Memᴰ a (keep p l)
+  unfolding keep
+  keep-mem [] m e = absurd (List·Memᴰ·not-nil m)
+  keep-mem {a} (x ∷ l) m e = go (p x) refl (keep-mem l) (List·Memᴰ·cases-cons m)
+    where
+      go : (b : Bool) → p x ≡ b → (List·Memᴰ a l → p a ≡ true → List·Memᴰ a (keep p l)) → (a ≡ x) ⊎ List·Memᴰ a l → List·Memᴰ a (put b x (keep p l))
+      go true q r c = ⊎-elim (λ z. List·Memᴰ·head z) (λ k. List·Memᴰ·tail (r k e)) c
+      go false q r c = ⊎-elim (λ (z : a ≡ x). not-both (p a) e (ap p z ∙ q)) (λ k. r k e) c
+
+  pub mem-keep : {a : A} (l : List A) → List·Memᴰ a (keep p l) → List·Memᴰ a l × (p a ≡ true)
+  unfolding keep
+  mem-keep [] m = absurd (List·Memᴰ·not-nil m)
+  mem-keep {a} (x ∷ l) m = go (p x) refl m (mem-keep l)
+    where
+      go : (b : Bool) → p x ≡ b → List·Memᴰ a (put b x (keep p l)) → (List·Memᴰ a (keep p l) → List·Memᴰ a l × (p a ≡ true)) → List·Memᴰ a (x ∷ l) × (p a ≡ true)
+      go true q m r = ⊎-elim (λ (z : a ≡ x). (List·Memᴰ·head z, ap p z ∙ q)) (λ k. (List·Memᴰ·tail (r k .0), r k .1)) (List·Memᴰ·cases-cons m)
+      go false q m r = (List·Memᴰ·tail (r m .0), r m .1)
+
+-- ---- all
+
+module _ {A : Type 0} (p : A → Bool) where
+  pub all-at : {a : A} (l : List A) → all p l ≡ true → List·Memᴰ a l → p a ≡ true
+  unfolding all
+  all-at [] e m = absurd (List·Memᴰ·not-nil m)
+  all-at {a} (x ∷ l) e m =
+      ⊎-elim
+      (λ (z : a ≡ x). ap p z ∙ and-right (all p l) (p x) e)
+      (λ k. all-at l (and-left (all p l) (p x) e) k)
+      (List·Memᴰ·cases-cons m)
+
+  pub all-yes : (l : List A) → ((a : A) → List·Memᴰ a l → p a ≡ true) → all p l ≡ true
+  unfolding all
+  all-yes [] h = refl
+  all-yes (x ∷ l) h = and-both (all-yes l (λ a m. h a (List·Memᴰ·tail m))) (h x (List·Memᴰ·head refl))
+
+  pub all-fails : (l : List A) → all p l ≡ false → (a : A) × List·Memᴰ a l × (p a ≡ false)
+  unfolding all
+  all-fails [] e = absurd (true≢false e)
+  all-fails (x ∷ l) e =
+      ⊎-elim
+      (λ (q : all p l ≡ false). let w = all-fails l q in (w .0, List·Memᴰ·tail (w .1), w .2))
+      (λ (q : p x ≡ false). (x, List·Memᴰ·head refl, q))
+      (and-fails (all p l) (p x) e)
+
+-- ---- chain
+
+module _ {A : Type 0} (f : ℕ → List A) where
+  pub chain-mem : {a : A} (n k : ℕ) → k < n → List·Memᴰ a (f k) → List·Memᴰ a (chain n f)
+  unfolding chain
+  chain-mem zero k h m = absurd (omega arith)
+  chain-mem {a} (suc n) k h m =
+      ⊎-elim
+      (λ (q : k ≡ n). Memᴰ·append-right (chain n f) (subst (λ j. List·Memᴰ a (f j)) q m))
+      (λ (q : k < n). Memᴰ·append-left (f n) (chain-mem n k q m))
+      (eq-or-lt-of-le (le-of-suc-le-suc h))
+
+  pub mem-chain : {a : A} (n : ℕ) → List·Memᴰ a (chain n f) → (k : ℕ) × (k < n) × List·Memᴰ a (f k)
+  unfolding chain
+  mem-chain zero m = absurd (List·Memᴰ·not-nil m)
+  mem-chain (suc n) m =
+      ⊎-elim
+      (λ l. let w = mem-chain n l in (w .0, omega (arith, w .1), w .2))
+      (λ r. (n, omega arith, r))
+      (List·Memᴰ·append-cases (chain n f) m)

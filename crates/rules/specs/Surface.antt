@@ -1,0 +1,122 @@
+-- THE SURFACE: its cells, its table, its weights, and when it stands. W columns and H rows; column 0 is at the left, row 0 at the top.
+use mathlib.Core.Bool.{Bool, true, false, not, cond, _&&_, _||_}
+use mathlib.Core.List.{List, [], _∷_}
+use Prim.Native.Nat.{ℕ, zero, suc, _+_, _-_, _*_, _/_, _%_}
+use lib.Dec.{leb, ltb, eqb}
+use lib.IntN.{ℤ, pos, negℤ}
+use lib.ListN.{length, getD}
+use lib.Seq.{sets}
+use Rattle.rules.specs.Tests.{every, any, count, least, eqZ, tab}
+use Rattle.rules.specs.declared.Rect.{Rect}
+
+-- "A rectangle is (x, y, w, h), its top left cell and its size"
+abbrev pub rect : ℕ → ℕ → ℕ → ℕ → Rect
+rect x y w h = record { x = x; y = y; w = w; h = h }
+
+-- cell (x, y) is a cell of the rectangle
+unfoldable pub covers : Rect → ℕ → ℕ → Bool
+covers r x y = leb (r .x) x && ltb x (r .x + r .w) && leb (r .y) y && ltb y (r .y + r .h)
+
+-- ---- the table
+
+-- "Table: lent bytes, 1 to 256 slots of 8 bytes, no header."
+abbrev pub slots : List ℕ → ℕ
+slots t = length t / 8
+
+-- byte k of slot i
+abbrev pub byte : List ℕ → ℕ → ℕ → ℕ
+byte t i k = getD t (8 * i + k) 0
+
+-- "Bytes 0 and 1 are the id, low byte first, then x, y, w, h, then two zero bytes."
+abbrev pub idOf : List ℕ → ℕ → ℕ
+idOf t i = byte t i 0 + 256 * byte t i 1
+
+abbrev pub rectOf : List ℕ → ℕ → Rect
+rectOf t i = rect (byte t i 2) (byte t i 3) (byte t i 4) (byte t i 5)
+
+abbrev pub spareZero : List ℕ → ℕ → Bool
+spareZero t i = eqb (byte t i 6) 0 && eqb (byte t i 7) 0
+
+-- the same record, written: a module's id as its two bytes, and its rectangle
+abbrev pub recordOf : ℕ → ℕ → Rect → List ℕ
+recordOf low high r = low ∷ high ∷ r .x ∷ r .y ∷ r .w ∷ r .h ∷ 0 ∷ 0 ∷ []
+
+-- "A free slot is eight zero bytes, so id 0 is no id."
+abbrev pub freeRecord : List ℕ
+freeRecord = 0 ∷ 0 ∷ 0 ∷ 0 ∷ 0 ∷ 0 ∷ 0 ∷ 0 ∷ []
+
+unfoldable pub freeSlot : List ℕ → ℕ → Bool
+freeSlot t i = every 8 (λ k. eqb (byte t i k) 0)
+
+abbrev pub usedSlot : List ℕ → ℕ → Bool
+usedSlot t i = not (freeSlot t i)
+
+-- the table with these eight bytes in slot i
+abbrev pub withRecord : List ℕ → ℕ → List ℕ → List ℕ
+withRecord t i r = sets t (8 * i) r
+
+-- ---- cells
+
+-- slot i is used and its module has cell (x, y)
+unfoldable pub holds : List ℕ → ℕ → ℕ → ℕ → Bool
+holds t x y i = usedSlot t i && covers (rectOf t i) x y
+
+-- cell (x, y) is occupied: some module has it. Otherwise it is empty
+unfoldable pub occupied : List ℕ → ℕ → ℕ → Bool
+occupied t x y = any (slots t) (holds t x y)
+
+-- the slot of the module that has cell (x, y)
+unfoldable pub holder : List ℕ → ℕ → ℕ → ℕ
+holder t x y = least (slots t) (holds t x y)
+
+-- ---- weights
+
+-- "An empty cell holds the number of empty cells in its column, itself included, counted upwards without a gap."
+unfoldable pub upwards : (ℕ → ℕ → Bool) → ℕ → ℕ → ℕ
+upwards occ x zero = cond (occ x 0) 0 1
+upwards occ x (suc y) = cond (occ x (suc y)) 0 (suc (upwards occ x y))
+
+-- "An occupied cell in column c of a module (x, y, w, h) holds −(x + w − c), the width that remains to the right."
+unfoldable pub remaining : Rect → ℕ → ℤ
+remaining r c = negℤ (pos (r .x + r .w - c))
+
+unfoldable pub weight : List ℕ → ℕ → ℕ → ℤ
+weight t x y = cond (occupied t x y) (remaining (rectOf t (holder t x y)) x) (pos (upwards (occupied t) x y))
+
+-- "Weights: a lent list of signed 16-bit numbers, exactly W·H long; cell (x, y) is number y·W + x."
+abbrev pub cell : ℕ → List ℤ → ℕ → ℕ → ℤ
+cell W s x y = getD s (y * W + x) (pos 0)
+
+-- the weights of all cells, worked out afresh from the table
+unfoldable pub fresh : ℕ → ℕ → List ℕ → List ℤ
+fresh W H t = tab (W * H) (λ k. weight t (k % W) (k / W))
+
+-- ---- "A surface stands when ..
+
+-- .. every slot is free or has an id, w and h of at least 1, x + w ≤ W, y + h ≤ H and zero spare bytes;
+unfoldable pub soundSlot : ℕ → ℕ → List ℕ → ℕ → Bool
+soundSlot W H t i =
+    let r = rectOf t i in
+    leb 1 (idOf t i) && leb 1 (r .w) && leb 1 (r .h) && leb (r .x + r .w) W && leb (r .y + r .h) H && spareZero t i
+
+unfoldable pub slotsSound : ℕ → ℕ → List ℕ → Bool
+slotsSound W H t = every (slots t) (λ i. freeSlot t i || soundSlot W H t i)
+
+-- .. no two used slots have the same id;
+unfoldable pub idsDiffer : List ℕ → Bool
+idsDiffer t = every (slots t) (λ j. every j (λ i. not (usedSlot t i && usedSlot t j && eqb (idOf t i) (idOf t j))))
+
+-- .. no two modules share a cell;
+unfoldable pub modulesApart : ℕ → ℕ → List ℕ → Bool
+modulesApart W H t = every H (λ y. every W (λ x. every (slots t) (λ j. every j (λ i. not (holds t x y i && holds t x y j)))))
+
+-- .. and every weight is as above."
+unfoldable pub weightsRight : ℕ → ℕ → List ℤ → List ℕ → Bool
+weightsRight W H s t = every H (λ y. every W (λ x. eqZ (cell W s x y) (weight t x y)))
+
+unfoldable pub stands : ℕ → ℕ → List ℤ → List ℕ → Bool
+stands W H s t = slotsSound W H t && idsDiffer t && modulesApart W H t && weightsRight W H s t
+
+-- how many slots are used
+unfoldable pub usedSlots : List ℕ → ℕ
+usedSlots t = count (slots t) (usedSlot t)

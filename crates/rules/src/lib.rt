@@ -1,0 +1,17 @@
+// The types that the definitions in specs/ share with the code of the layers above. No code here.
+
+// "A rectangle is (x, y, w, h), its top left cell and its size, at least 1×1."
+pub struct Rect {
+    pub x: usize,
+    pub y: usize,
+    pub w: usize,
+    pub h: usize,
+}
+
+// What a request comes to: refused, with its code; or the slot whose record it changes, with the rectangle of the
+// module that stands there now (place, pin, exchange) or of the one that is gone (remove).
+pub enum Step {
+    Refused(u8),
+    Placed(usize, Rect),
+    Removed(usize, Rect),
+}
