@@ -48,13 +48,13 @@ module _ {A : Type 0} (key : A → ℕ) where
   few zero (x ∷ l) f o = absurd (let h = f x (List·Memᴰ·head refl) in omega arith)
   few (suc n) l f o =
       let r : length (keep (others n) l) ≤ n =
-          few n (keep (others n) l)
-          (λ a m.
-          let k = mem-keep (others n) l m in
-          let h = f a (k .0) in
-          let d = eqb-false (key a) n (not-true _ (k .1)) in
-          omega arith)
-          (ordered-keep Apart (others n) l o) in
+      few n (keep (others n) l)
+      (λ a m.
+      let k = mem-keep (others n) l m in
+      let h = f a (k .0) in
+      let d = eqb-false (key a) n (not-true _ (k .1)) in
+      omega arith)
+      (ordered-keep Apart (others n) l o) in
       omega (arith, one-left-out n l o)
 
 -- ---- the key of a maximal rectangle
@@ -87,18 +87,21 @@ module _ (occ : ℕ → ℕ → Bool) (W H : ℕ) where
           (λ (p : c < a .x + a .w). record { from = l .from; upto = p; above = l .here p })
           (λ (p : a .x + a .w ≤ c).
           let clear : (x : ℕ) → a .x ≤ x → x < a .x + a .w → (eqb (a .y) 0 ≡ false) × (occ x (a .y - 1) ≡ false) =
-              λ x f g. or-neither (eqb (a .y) 0) (occ x (a .y - 1)) (l .before x f (omega arith)) in
+          λ x f g. or-neither (eqb (a .y) 0) (occ x (a .y - 1)) (l .before x f (omega arith)) in
           let first = clear (a .x) (le-refl _) (omega (arith, m .isEmpty .wide)) in
           let high = eqb-false (a .y) 0 (first .0) in
           let taller : Rect = rect (a .x) (a .y - 1) (a .w) (suc (a .h)) in
           let e : Empty occ W H taller = record {
-                wide = m .isEmpty .wide; tall = omega arith; columns = m .isEmpty .columns; lines = omega (arith, m .isEmpty .lines);
-                free = λ x y f g h k.
-                    ⊎-elim
-                    (λ (z : y < a .y). let q : y ≡ a .y - 1 = omega arith in ap (occ x) q ∙ clear x f g .1)
-                    (λ (z : a .y ≤ y). m .isEmpty .free x y f g z (omega arith))
-                    (lt-or-le y (a .y));
-              } in
+            wide = m .isEmpty .wide;
+            tall = omega arith;
+            columns = m .isEmpty .columns;
+            lines = omega (arith, m .isEmpty .lines);
+            free = λ x y f g h k.
+                ⊎-elim
+                (λ (z : y < a .y). let q : y ≡ a .y - 1 = omega arith in ap (occ x) q ∙ clear x f g .1)
+                (λ (z : a .y ≤ y). m .isEmpty .free x y f g z (omega arith))
+                (lt-or-le y (a .y));
+          } in
           let s = m .most taller e (record { left = le-refl _; top = omega arith; right = le-refl _; bottom = omega arith }) in
           let t : suc (a .h) ≡ a .h = ap (λ (r : Rect). r .h) s in
           absurd (omega arith))
@@ -124,17 +127,20 @@ module _ (occ : ℕ → ℕ → Bool) (W H : ℕ) where
       let end = max (a .x + a .w) (b .x + b .w) in
       let both : Rect = rect left (a .y) (end - left) (a .h) in
       let e : Empty occ W H both = record {
-            wide = omega arith; tall = m .isEmpty .tall; columns = omega (arith, m .isEmpty .columns, n .isEmpty .columns); lines = m .isEmpty .lines;
-            free = λ x y p q r s.
-                let inA : a .x ≤ x → x < a .x + a .w → occ x y ≡ false = λ u v. m .isEmpty .free x y u v r s in
-                let inB : b .x ≤ x → x < b .x + b .w → occ x y ≡ false = λ u v. n .isEmpty .free x y u v (omega arith) (omega arith) in
-                ⊎-elim
-                (λ (z : x < c).
-                ⊎-elim (λ (u : x < a .x). inB (omega arith) (omega arith)) (λ (u : a .x ≤ x). inA u (omega arith)) (lt-or-le x (a .x)))
-                (λ (z : c ≤ x).
-                ⊎-elim (λ (u : x < a .x + a .w). inA (omega arith) u) (λ (u : a .x + a .w ≤ x). inB (omega arith) (omega arith)) (lt-or-le x (a .x + a .w)))
-                (lt-or-le x c);
-          } in
+        wide = omega arith;
+        tall = m .isEmpty .tall;
+        columns = omega (arith, m .isEmpty .columns, n .isEmpty .columns);
+        lines = m .isEmpty .lines;
+        free = λ x y p q r s.
+            let inA : a .x ≤ x → x < a .x + a .w → occ x y ≡ false = λ u v. m .isEmpty .free x y u v r s in
+            let inB : b .x ≤ x → x < b .x + b .w → occ x y ≡ false = λ u v. n .isEmpty .free x y u v (omega arith) (omega arith) in
+            ⊎-elim
+            (λ (z : x < c).
+            ⊎-elim (λ (u : x < a .x). inB (omega arith) (omega arith)) (λ (u : a .x ≤ x). inA u (omega arith)) (lt-or-le x (a .x)))
+            (λ (z : c ≤ x).
+            ⊎-elim (λ (u : x < a .x + a .w). inA (omega arith) u) (λ (u : a .x + a .w ≤ x). inB (omega arith) (omega arith)) (lt-or-le x (a .x + a .w)))
+            (lt-or-le x c);
+      } in
       let p : both ≡ a = m .most both e (record { left = omega arith; top = le-refl _; right = omega arith; bottom = le-refl _ }) in
       let q : both ≡ b = n .most both e (record { left = omega arith; top = omega arith; right = omega arith; bottom = omega arith }) in
       sym p ∙ q
@@ -174,9 +180,9 @@ module _ (occ : ℕ → ℕ → Bool) (W H : ℕ) where
   pub entries-few : length (entries occ W H) ≤ W * H
   entries-few =
       let r : length (entries occ W H) ≤ H * W =
-          few key (H * W) (entries occ W H)
-          (λ a m. key-low a (entries-are occ W H a .0 m))
-          (ordered-by _ _ (entries occ W H)
-          (λ a b m n p e. earlier-other a b p (key-one a b (entries-are occ W H a .0 m) (entries-are occ W H b .0 n) e))
-          (entries-ordered occ W H)) in
+      few key (H * W) (entries occ W H)
+      (λ a m. key-low a (entries-are occ W H a .0 m))
+      (ordered-by _ _ (entries occ W H)
+      (λ a b m n p e. earlier-other a b p (key-one a b (entries-are occ W H a .0 m) (entries-are occ W H b .0 n) e))
+      (entries-ordered occ W H)) in
       omega (arith, mul-comm W H)

@@ -2,3 +2,7 @@
 pub mod Rectangles
 pub mod Order
 pub mod Bound
+pub mod Weights
+pub mod Corners
+pub mod Choice
+pub mod Lowest

@@ -114,7 +114,10 @@ module _ (occ : ℕ → ℕ → Bool) (W H : ℕ) where
     (λ e.
         let o = onSurface-on W H a (and-left (onSurface W H a) (cellsEmpty occ a) e) in
         record {
-          wide = o .wide; tall = o .tall; columns = o .columns; lines = o .lines;
+          wide = o .wide;
+          tall = o .tall;
+          columns = o .columns;
+          lines = o .lines;
           free = cellsEmpty-at a (and-right (onSurface W H a) (cellsEmpty occ a) e);
         }),
     (λ e. and-both (on-onSurface W H a (empty-on e)) (cellsEmpty-yes a (e .free))),
@@ -123,7 +126,8 @@ module _ (occ : ℕ → ℕ → Bool) (W H : ℕ) where
   -- a part of an empty rectangle is empty
   pub part-empty : {a b : Rect} → Empty occ W H b → Inside a b → 1 ≤ a .w → 1 ≤ a .h → Empty occ W H a
   part-empty {a} {b} e i p q = record {
-    wide = p; tall = q;
+    wide = p;
+    tall = q;
     columns = omega (arith, e .columns, i .right);
     lines = omega (arith, e .lines, i .bottom);
     free = λ x y f g h k. e .free x y (omega (arith, i .left)) (omega (arith, i .right)) (omega (arith, i .top)) (omega (arith, i .bottom));

@@ -43,7 +43,9 @@ sameItems f [] (b ∷ m) = false
 sameItems f (a ∷ l) [] = false
 sameItems f (a ∷ l) (b ∷ m) = sameItems f l m && f a b
 
+-- whoever unfolds `caseHolds` unfolds all the rules: the statements below are computed
 unfoldable pub caseHolds : Case → Bool
+unfolding Tests.every Tests.any Tests.total Tests.leastFrom Tests.tabFrom Tests.keep Tests.all Tests.chain Surface.covers Surface.freeSlot Surface.holds Surface.occupied Surface.holder Surface.upwards Surface.remaining Surface.weight Surface.fresh Surface.soundSlot Surface.slotsSound Surface.idsDiffer Surface.modulesApart Surface.weightsRight Surface.stands Surface.usedSlots Empties.onSurface Empties.cellsEmpty Empties.empty Empties.rects Empties.maximal Empties.entries Empties.entryRecords Empties.scanned Empties.corner Empties.corners Judging.first Requests.zeros Requests.placed Requests.slotOf Requests.someFree Requests.lowestFree Requests.ground Requests.position Requests.cost Requests.cheapest Requests.chosen Requests.rulePlace Requests.judging Requests.accepted Requests.stepOf Blocks.next Blocks.after Calls.clearLines Calls.clearCode Calls.clearedWeights Calls.clear Calls.checkLines Calls.checkCode Calls.check Calls.runLines Calls.runCode Calls.run Calls.listLines Calls.listCode Calls.list
 caseHolds c =
     let blank = clear (c .w) (c .h) (replicate (c .w * c .h) (pos 9)) (replicate (8 * c .slots) 9) in
     let ran = run (c .w) (c .h) (blank .weights) (blank .table) (c .block) (replicate (length (c .block)) 9) in
@@ -56,17 +58,17 @@ caseHolds c =
 
 -- ---- the requests, and what a slot holds
 
-abbrev eight : ℕ → ℕ → ℕ → ℕ → ℕ → ℕ → ℕ → ℕ → List ℕ
+abbrev pub eight : ℕ → ℕ → ℕ → ℕ → ℕ → ℕ → ℕ → ℕ → List ℕ
 eight a b c d e f g h = a ∷ b ∷ c ∷ d ∷ e ∷ f ∷ g ∷ h ∷ []
 
-abbrev free : List ℕ
+abbrev pub free : List ℕ
 free = eight 0 0 0 0 0 0 0 0
 
 -- an empty cell's count, an occupied cell's width
-abbrev e : ℕ → ℤ
+abbrev pub e : ℕ → ℤ
 e n = pos n
 
-abbrev o : ℕ → ℤ
+abbrev pub o : ℕ → ℤ
 o n = negℤ (pos n)
 
 -- B: place id 1, 2×1, rule 2. C: place id 2, 3×2, rule 0. D: pin id 7, 1×1 at (1, 1)
@@ -252,5 +254,5 @@ cases =
 
 -- CASES A TO I HOLD
 pub cases-hold : all caseHolds cases ≡ true
-unfolding Tests.every Tests.any Tests.total Tests.leastFrom Tests.tabFrom Tests.keep Tests.all Tests.chain Surface.covers Surface.freeSlot Surface.holds Surface.occupied Surface.holder Surface.upwards Surface.remaining Surface.weight Surface.fresh Surface.soundSlot Surface.slotsSound Surface.idsDiffer Surface.modulesApart Surface.weightsRight Surface.stands Surface.usedSlots Empties.onSurface Empties.cellsEmpty Empties.empty Empties.rects Empties.maximal Empties.entries Empties.entryRecords Empties.scanned Empties.corner Empties.corners Judging.first Requests.zeros Requests.placed Requests.slotOf Requests.someFree Requests.lowestFree Requests.ground Requests.position Requests.cost Requests.cheapest Requests.chosen Requests.rulePlace Requests.judging Requests.accepted Requests.stepOf Blocks.next Blocks.after Calls.clearLines Calls.clearCode Calls.clearedWeights Calls.clear Calls.checkLines Calls.checkCode Calls.check Calls.runLines Calls.runCode Calls.run Calls.listLines Calls.listCode Calls.list caseHolds
+unfolding caseHolds
 cases-hold = refl

@@ -7,3 +7,4 @@ pub mod Requests
 pub mod Blocks
 pub mod Calls
 pub mod Figures
+pub mod Examples

@@ -1,0 +1,223 @@
+-- A rule finds a place exactly when some position has all its cells empty, and what it finds is empty. Assumes nothing.
+use mathlib.Core.Path.{_≡_, refl, sym, ap, ap₂, _∙_, subst}
+use mathlib.Core.Bool.{Bool, true, false, cond, _&&_}
+use mathlib.Core.Logic.{_⊎_, inl, inr, ⊎-elim, _↔_}
+use mathlib.Core.List.{List, [], _∷_, _++_, List·Memᴰ, List·Memᴰ·head, List·Memᴰ·tail, List·Memᴰ·not-nil, List·Memᴰ·cases-cons, head-eq-of-cons-eq, tail-eq-of-cons-eq, Memᴰ·cast}
+use mathlib.Core.Option.{Option, none, some}
+use Prim.Native.Nat.{ℕ, zero, suc, _+_, _-_, _≤_, _<_}
+use native.Mathlib.Nat.{le-refl}
+use native.Mathlib.Omega.{arith}
+use lib.Dec.{leb, ltb}
+use borrow.Author.Tests.{leb-true, le-leb, ltb-true, ltb-false}
+use Rattle.rules.specs.Tests.{any, keep}
+use Rattle.rules.specs.Surface.{rect}
+use Rattle.rules.specs.Empties.{empty, Inside, Empty, Maximal, maximal, entries}
+use Rattle.rules.specs.Requests.{position, room, cost, cheapest, chosenOf, chosen, lowerLeft, standing, rulePlace}
+use Rattle.rules.specs.declared.Rect.{Rect}
+use Rattle.rules.proofs.Tests.{and-left, and-right, and-both, decide, any-at, any-yes, keep-mem, mem-keep}
+use Rattle.meaning.proofs.Rectangles.{rect-eq, empty-is, part-empty, maximal-is, larger, Larger, entries-are}
+use Rattle.meaning.proofs.Bound.{lt-or-le}
+
+module _ (occ : ℕ → ℕ → Bool) (W H : ℕ) where
+  -- ---- every empty rectangle lies in a maximal one
+
+  pub record Grown (a : Rect) : Type 0 where
+    pub to : Rect
+    pub isMaximal : Maximal occ W H to
+    pub inside : Inside a to
+
+  -- what contains another and is not it has more columns and rows
+  pub more : (a : Rect) (l : Larger occ W H a) → a .w + a .h < l .by .w + l .by .h
+  more a l =
+      ⊎-elim
+      (λ (p : a .w + a .h < l .by .w + l .by .h). p)
+      (λ (p : l .by .w + l .by .h ≤ a .w + a .h).
+      absurd
+      (l .other
+      (rect-eq (l .by) a
+      (omega (arith, l .inside .left, l .inside .right, l .inside .top, l .inside .bottom))
+      (omega (arith, l .inside .left, l .inside .right, l .inside .top, l .inside .bottom))
+      (omega (arith, l .inside .left, l .inside .right, l .inside .top, l .inside .bottom))
+      (omega (arith, l .inside .left, l .inside .right, l .inside .top, l .inside .bottom)))))
+      (lt-or-le (a .w + a .h) (l .by .w + l .by .h))
+
+  within : {a b c : Rect} → Inside a b → Inside b c → Inside a c
+  within i j = record {
+    left = omega (arith, i .left, j .left);
+    top = omega (arith, i .top, j .top);
+    right = omega (arith, i .right, j .right);
+    bottom = omega (arith, i .bottom, j .bottom);
+  }
+
+  -- it is maximal, or a larger one is to be looked at
+  grow-by : (a : Rect) → Empty occ W H a → (Larger occ W H a → Grown a) → Grown a
+  grow-by a e f =
+      ⊎-elim
+      (λ (p : maximal occ W H a ≡ true).
+      record { to = a; isMaximal = maximal-is occ W H a .0 p; inside = record { left = le-refl _; top = le-refl _; right = le-refl _; bottom = le-refl _ } })
+      (λ (p : maximal occ W H a ≡ false). f (larger occ W H a (empty-is occ W H a .1 e) p))
+      (decide (maximal occ W H a))
+
+  grow : (n : ℕ) (a : Rect) → Empty occ W H a → W + H ≤ n + (a .w + a .h) → Grown a
+  grow zero a e h = grow-by a e (λ l. absurd (omega (arith, more a l, l .isEmpty .columns, l .isEmpty .lines)))
+  grow (suc n) a e h = grow-by a e (λ l. further l (grow n (l .by) (l .isEmpty) (omega (arith, more a l))))
+    where
+      further : (l : Larger occ W H a) → Grown (l .by) → Grown a
+      further l g = record { to = g .to; isMaximal = g .isMaximal; inside = within (l .inside) (g .inside) }
+
+  -- EVERY EMPTY RECTANGLE LIES IN A MAXIMAL ONE
+  pub grown : (a : Rect) → Empty occ W H a → Grown a
+  grown a e = grow (W + H) a e (omega arith)
+
+-- ---- the choice: the first of those that cost least
+
+pub record FirstLeast (f : Rect → ℕ) (l : List Rect) (c : Rect) : Type 0 where
+  pub before : List Rect
+  pub after : List Rect
+  pub is : l ≡ before ++ (c ∷ after)
+  pub dearer : (d : Rect) → List·Memᴰ d before → f c < f d
+  pub least : (d : Rect) → List·Memᴰ d after → f c ≤ f d
+
+module _ (f : Rect → ℕ) where
+  pub cheapest-le : (e : Rect) (l : List Rect) → f (cheapest f e l) ≤ f e
+  unfolding cheapest
+  cheapest-le e [] = le-refl _
+  cheapest-le e (d ∷ l) = go (ltb (f d) (f e)) refl (cheapest-le d l) (cheapest-le e l)
+    where
+      go : (b : Bool) → ltb (f d) (f e) ≡ b → f (cheapest f d l) ≤ f d → f (cheapest f e l) ≤ f e → f (cheapest f (cond b d e) l) ≤ f e
+      go true q p r = let z = ltb-true (f d) (f e) q in omega arith
+      go false q p r = r
+
+  -- THE RULE TAKES THE FIRST OF THOSE THAT COST LEAST
+  pub cheapest-is : (e : Rect) (l : List Rect) → FirstLeast f (e ∷ l) (cheapest f e l)
+  unfolding cheapest
+  cheapest-is e [] = record { before = []; after = []; is = refl; dearer = λ d m. absurd (List·Memᴰ·not-nil m); least = λ d m. absurd (List·Memᴰ·not-nil m) }
+  cheapest-is e (d ∷ l) = go (ltb (f d) (f e)) refl (cheapest-is d l) (cheapest-is e l)
+    where
+      -- e stays the first of those that cost least, or some later one costs less than it
+      stays : f e ≤ f d → (c : Rect) (b a : List Rect) → (e ∷ l) ≡ (b ++ (c ∷ a)) → ((k : Rect) → List·Memᴰ k b → f c < f k) → ((k : Rect) → List·Memᴰ k a → f c ≤ f k) → FirstLeast f (e ∷ d ∷ l) c
+      stays q c [] a s p r =
+          let h : e ≡ c = head-eq-of-cons-eq s in
+          let t : l ≡ a = tail-eq-of-cons-eq s in
+          record {
+            before = [];
+            after = d ∷ a;
+            is = ap₂ (λ u v. u ∷ d ∷ v) h t;
+            dearer = λ k m. absurd (List·Memᴰ·not-nil m);
+            least = λ k m. ⊎-elim (λ (z : k ≡ d). let u = ap f z in let v = ap f h in omega arith) (λ n. r k n) (List·Memᴰ·cases-cons m);
+          }
+      stays q c (x ∷ b) a s p r =
+          let h : e ≡ x = head-eq-of-cons-eq s in
+          let t : l ≡ b ++ (c ∷ a) = tail-eq-of-cons-eq s in
+          let u = p x (List·Memᴰ·head refl) in
+          let v = ap f h in
+          record {
+            before = x ∷ d ∷ b;
+            after = a;
+            is = ap₂ (λ y z. y ∷ d ∷ z) h t;
+            dearer = λ k m.
+                ⊎-elim (λ (z : k ≡ x). p k (List·Memᴰ·head z))
+                (λ n. ⊎-elim (λ (z : k ≡ d). let w = ap f z in omega arith) (λ o. p k (List·Memᴰ·tail o)) (List·Memᴰ·cases-cons n))
+                (List·Memᴰ·cases-cons m);
+            least = r;
+          }
+
+      go : (b : Bool) → ltb (f d) (f e) ≡ b → FirstLeast f (d ∷ l) (cheapest f d l) → FirstLeast f (e ∷ l) (cheapest f e l) → FirstLeast f (e ∷ d ∷ l) (cheapest f (cond b d e) l)
+      go true q p r =
+          let z = ltb-true (f d) (f e) q in
+          record {
+            before = e ∷ p .before;
+            after = p .after;
+            is = ap (λ u. e ∷ u) (p .is);
+            dearer = λ k m. ⊎-elim (λ (y : k ≡ e). let u = ap f y in omega (arith, cheapest-le d l)) (λ n. p .dearer k n) (List·Memᴰ·cases-cons m);
+            least = p .least;
+          }
+      go false q p r = stays (ltb-false (f d) (f e) q) (cheapest f e l) (r .before) (r .after) (r .is) (r .dearer) (r .least)
+
+  pub cheapest-mem : (e : Rect) (l : List Rect) → List·Memᴰ (cheapest f e l) (e ∷ l)
+  unfolding cheapest
+  cheapest-mem e [] = List·Memᴰ·head refl
+  cheapest-mem e (d ∷ l) = go (ltb (f d) (f e)) (cheapest-mem d l) (cheapest-mem e l)
+    where
+      go : (b : Bool) → List·Memᴰ (cheapest f d l) (d ∷ l) → List·Memᴰ (cheapest f e l) (e ∷ l) → List·Memᴰ (cheapest f (cond b d e) l) (e ∷ d ∷ l)
+      go true p r = List·Memᴰ·tail p
+      go false p r = ⊎-elim (λ z. List·Memᴰ·head z) (λ n. List·Memᴰ·tail (List·Memᴰ·tail n)) (List·Memᴰ·cases-cons r)
+
+  -- something is chosen from every list that has an item, and it is an item
+  pub chosenOf-some : (l : List Rect) {a : Rect} → List·Memᴰ a l → (c : Rect) × (chosenOf f l ≡ some c)
+  chosenOf-some [] m = absurd (List·Memᴰ·not-nil m)
+  chosenOf-some (e ∷ l) m = (cheapest f e l, refl)
+
+  pub chosenOf-mem : (l : List Rect) (c : Rect) → chosenOf f l ≡ some c → List·Memᴰ c l × FirstLeast f l c
+  chosenOf-mem [] c e = absurd (let z : _≡_ {A = ℕ} 0 1 = cc in omega arith)
+  chosenOf-mem (d ∷ l) c e =
+      let q : cheapest f d l ≡ c = cc in
+      (Memᴰ·cast (sym q) (cheapest-mem d l), subst (FirstLeast f (d ∷ l)) q (cheapest-is d l))
+
+-- ---- the place that a rule chose
+
+module _ (occ : ℕ → ℕ → Bool) (W H : ℕ) (rule w h : ℕ) where
+  -- the entry behind a place by rule
+  pub record ByRule (r : Rect) : Type 0 where
+    pub entry : Rect
+    pub isMaximal : Maximal occ W H entry
+    pub wide : w ≤ entry .w
+    pub high : h ≤ entry .h
+    pub best : FirstLeast (cost W H w h rule) (keep (room w h) (entries occ W H)) entry
+    pub is : r ≡ lowerLeft w h entry
+
+  -- A PLACE BY RULE IS THE LOWER LEFT CORNER OF THE FIRST ENTRY WITH ROOM THAT COSTS LEAST
+  pub rulePlace-is : (r : Rect) → rulePlace occ W H rule w h ≡ some r → ByRule r
+  unfolding rulePlace chosen
+  rulePlace-is r e = go (chosenOf (cost W H w h rule) (keep (room w h) (entries occ W H))) refl e
+    where
+      go : (o : Option Rect) → chosenOf (cost W H w h rule) (keep (room w h) (entries occ W H)) ≡ o → standing w h o ≡ some r → ByRule r
+      go none p q = absurd (let z : _≡_ {A = ℕ} 0 1 = cc in omega arith)
+      go (some c) p q =
+          let m = chosenOf-mem (cost W H w h rule) (keep (room w h) (entries occ W H)) c p in
+          let k = mem-keep (room w h) (entries occ W H) (m .0) in
+          let s : lowerLeft w h c ≡ r = cc in
+          record {
+            entry = c;
+            isMaximal = entries-are occ W H c .0 (k .0);
+            wide = leb-true w (c .w) (and-left (leb w (c .w)) (leb h (c .h)) (k .1));
+            high = leb-true h (c .h) (and-right (leb w (c .w)) (leb h (c .h)) (k .1));
+            best = m .1;
+            is = sym s;
+          }
+
+  module _ (w1 : 1 ≤ w) (h1 : 1 ≤ h) where
+    -- WHAT A RULE FINDS IS EMPTY
+    pub rulePlace-empty : (r : Rect) → rulePlace occ W H rule w h ≡ some r → Empty occ W H r
+    rulePlace-empty r e =
+        let b = rulePlace-is r e in
+        let i : Inside (lowerLeft w h (b .entry)) (b .entry) = record {
+          left = le-refl _;
+          top = omega (arith, b .high);
+          right = omega (arith, b .wide);
+          bottom = omega (arith, b .high);
+        } in
+        subst (Empty occ W H) (sym (b .is)) (part-empty occ W H (b .isMaximal .isEmpty) i w1 h1)
+
+    -- A RULE FINDS A PLACE EXACTLY WHEN SOME POSITION HAS ALL ITS CELLS EMPTY
+    pub rule-finds : ((r : Rect) × (rulePlace occ W H rule w h ≡ some r)) ↔ (position occ W H w h ≡ true)
+    unfolding position rulePlace chosen
+    rule-finds = (
+      (λ p.
+          let r = p .0 in
+          let e = rulePlace-empty r (p .1) in
+          let b = rulePlace-is r (p .1) in
+          let ew : r .w ≡ w = ap (λ (a : Rect). a .w) (b .is) in
+          let eh : r .h ≡ h = ap (λ (a : Rect). a .h) (b .is) in
+          let s : r ≡ rect (r .x) (r .y) w h = rect-eq r (rect (r .x) (r .y) w h) refl refl ew eh in
+          any-yes H _ (r .y) (omega (arith, e .lines, e .tall))
+          (any-yes W _ (r .x) (omega (arith, e .columns, e .wide)) (ap (empty occ W H) {y = r} (sym s) ∙ empty-is occ W H r .1 e))),
+      (λ p.
+          let y = any-at H (λ y. any W (λ x. empty occ W H (rect x y w h))) p in
+          let x = any-at W (λ x. empty occ W H (rect x (y .0) w h)) (y .2) in
+          let g = grown occ W H (rect (x .0) (y .0) w h) (empty-is occ W H _ .0 (x .2)) in
+          let b = g .to in
+          let roomy : room w h b ≡ true = and-both (le-leb w (b .w) (omega (arith, g .inside .left, g .inside .right))) (le-leb h (b .h) (omega (arith, g .inside .top, g .inside .bottom))) in
+          let c = chosenOf-some (cost W H w h rule) _ (keep-mem (room w h) (entries occ W H) (entries-are occ W H b .1 (g .isMaximal)) roomy) in
+          (lowerLeft w h (c .0), ap (standing w h) (c .1))),
+    )

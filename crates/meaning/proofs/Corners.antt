@@ -1,0 +1,173 @@
+-- The lower right cell of each maximal rectangle is a corner, and its row is scanned. Assumes nothing.
+use mathlib.Core.Path.{_≡_, refl, sym, ap, ap₂, _∙_}
+use mathlib.Core.Bool.{Bool, true, false, not, _&&_, _||_}
+use mathlib.Core.Logic.{_⊎_, inl, inr, ⊎-elim}
+use mathlib.Core.List.{List}
+use Prim.Native.Nat.{ℕ, zero, suc, _+_, _-_, _≤_, _<_}
+use native.Mathlib.Nat.{le-refl, eq-or-lt-of-le}
+use native.Mathlib.Omega.{arith}
+use lib.Dec.{leb, ltb, eqb}
+use lib.IntN.{pos}
+use lib.Signed.{ltZ}
+use borrow.Author.Tests.{le-leb, lt-ltb, eq-eqb, not-false}
+use Rattle.rules.specs.Tests.{every, any}
+use Rattle.rules.specs.Surface.{rect, covers, slots, rectOf, usedSlot, holds, occupied, upwards, weight}
+use Rattle.rules.specs.Empties.{cellsEmpty, Inside, Empty, Maximal, scanned, corner}
+use Rattle.rules.specs.declared.Rect.{Rect}
+use Rattle.rules.proofs.Tests.{and-both, four-and, not-both, or-left, or-right, decide, fails, every-fails, any-at, any-yes}
+use Rattle.meaning.proofs.Rectangles.{cellsEmpty-at}
+use Rattle.meaning.proofs.Bound.{lt-or-le}
+use Rattle.meaning.proofs.Weights.{upwards-free, upwards-ge, covers-within, Within, holds-covers, holds-used, weight-occupied, weight-empty}
+
+-- an occupied cell of a rectangle
+pub record Taken (occ : ℕ → ℕ → Bool) (a : Rect) : Type 0 where
+  pub x : ℕ
+  pub y : ℕ
+  pub within : Within a x y
+  pub taken : occ x y ≡ true
+
+pub taken-in : (occ : ℕ → ℕ → Bool) (a : Rect) → cellsEmpty occ a ≡ false → Taken occ a
+unfolding cellsEmpty
+taken-in occ a e =
+    let j = every-fails (a .h) (λ j. every (a .w) (λ i. not (occ (a .x + i) (a .y + j)))) e in
+    let i = every-fails (a .w) (λ i. not (occ (a .x + i) (a .y + j .0))) (j .2) in
+    record {
+      x = a .x + i .0;
+      y = a .y + j .0;
+      within = record { left = omega arith; right = omega (arith, i .1); top = omega arith; bottom = omega (arith, j .1) };
+      taken = not-false _ (i .2);
+    }
+
+module _ (t : List ℕ) (W H : ℕ) (a : Rect) (m : Maximal (occupied t) W H a) where
+  abbrev occ : ℕ → ℕ → Bool
+  occ = occupied t
+
+  -- one more row below, one more column to the right
+  abbrev below : Rect
+  below = rect (a .x) (a .y + a .h) (a .w) 1
+
+  abbrev beside : Rect
+  beside = rect (a .x + a .w) (a .y) 1 (a .h)
+
+  no-lower : a .y + a .h < H → cellsEmpty occ below ≡ true → ⊥
+  no-lower p e =
+      let taller : Rect = rect (a .x) (a .y) (a .w) (suc (a .h)) in
+      let f : Empty occ W H taller = record {
+        wide = m .isEmpty .wide;
+        tall = omega arith;
+        columns = m .isEmpty .columns;
+        lines = omega arith;
+        free = λ x y g h k l.
+            ⊎-elim
+            (λ (z : y < a .y + a .h). m .isEmpty .free x y g h k z)
+            (λ (z : a .y + a .h ≤ y). cellsEmpty-at occ W H below e x y g h z (omega arith))
+            (lt-or-le y (a .y + a .h));
+      } in
+      let s = m .most taller f (record { left = le-refl _; top = le-refl _; right = le-refl _; bottom = omega arith }) in
+      let q : suc (a .h) ≡ a .h = ap (λ (r : Rect). r .h) s in
+      omega arith
+
+  no-wider : a .x + a .w < W → cellsEmpty occ beside ≡ true → ⊥
+  no-wider p e =
+      let wider : Rect = rect (a .x) (a .y) (suc (a .w)) (a .h) in
+      let f : Empty occ W H wider = record {
+        wide = omega arith;
+        tall = m .isEmpty .tall;
+        columns = omega arith;
+        lines = m .isEmpty .lines;
+        free = λ x y g h k l.
+            ⊎-elim
+            (λ (z : x < a .x + a .w). m .isEmpty .free x y g z k l)
+            (λ (z : a .x + a .w ≤ x). cellsEmpty-at occ W H beside e x y z (omega arith) k l)
+            (lt-or-le x (a .x + a .w));
+      } in
+      let s = m .most wider f (record { left = le-refl _; top = le-refl _; right = omega arith; bottom = le-refl _ }) in
+      let q : suc (a .w) ≡ a .w = ap (λ (r : Rect). r .w) s in
+      omega arith
+
+  -- under a maximal rectangle the surface ends, or a module begins: a cell is occupied, and the one above it is not
+  begins : Taken occ below → (i : ℕ) × (i < slots t) × ((usedSlot t i && eqb (rectOf t i .y) (a .y + a .h)) ≡ true)
+  unfolding occupied
+  begins k =
+      let w = any-at (slots t) (holds t (k .x) (k .y)) (k .taken) in
+      let i = w .0 in
+      let r = rectOf t i in
+      let row : k .y ≡ a .y + a .h = omega (arith, k .within .top, k .within .bottom) in
+      let c = covers-within r (k .x) (k .y) (holds-covers t (k .x) (k .y) i (w .2)) in
+      let u = holds-used t (k .x) (k .y) i (w .2) in
+      let top : r .y ≡ a .y + a .h =
+      ⊎-elim
+      (λ (p : r .y < a .y + a .h).
+      let y = a .y + a .h - 1 in
+      let v = cover r (k .x) y (c .left) (c .right) (omega arith) (omega (arith, c .bottom, m .isEmpty .tall)) in
+      let free = m .isEmpty .free (k .x) y (k .within .left) (k .within .right) (omega (arith, m .isEmpty .tall)) (omega (arith, m .isEmpty .tall)) in
+      not-both (occ (k .x) y) (any-yes (slots t) (holds t (k .x) y) i (w .1) (held i (k .x) y u v)) free)
+      (λ (p : a .y + a .h ≤ r .y). omega (arith, c .top))
+      (lt-or-le (r .y) (a .y + a .h)) in
+      (i, w .1, and-both u (eq-eqb _ _ top))
+    where
+      cover : (r : Rect) (x y : ℕ) → r .x ≤ x → x < r .x + r .w → r .y ≤ y → y < r .y + r .h → covers r x y ≡ true
+      cover r x y p q u v = unfold covers in four-and (le-leb _ _ p) (lt-ltb _ _ q) (le-leb _ _ u) (lt-ltb _ _ v)
+
+      held : (i x y : ℕ) → usedSlot t i ≡ true → covers (rectOf t i) x y ≡ true → holds t x y i ≡ true
+      held i x y u v = unfold holds in and-both u v
+
+  -- EVERY ENTRY'S BOTTOM ROW IS SCANNED
+  pub bottom-scanned : scanned H t (a .y + a .h - 1) ≡ true
+  unfolding scanned
+  bottom-scanned =
+      let q : suc (a .y + a .h - 1) ≡ a .y + a .h = omega (arith, m .isEmpty .tall) in
+      rw q
+      (⊎-elim
+      (λ (p : a .y + a .h < H).
+      let k = taken-in occ below (fails _ (no-lower p)) in
+      let w = begins k in
+      or-right (eqb (a .y + a .h) H) _ (any-yes (slots t) _ (w .0) (w .1) (w .2)))
+      (λ (p : H ≤ a .y + a .h). or-left (eqb (a .y + a .h) H) _ (eq-eqb (a .y + a .h) H (omega (arith, m .isEmpty .lines))))
+      (lt-or-le (a .y + a .h) H))
+
+  abbrev right : ℕ
+  right = a .x + a .w - 1
+
+  abbrev bottom : ℕ
+  bottom = a .y + a .h - 1
+
+  corner-free : occ right bottom ≡ false
+  corner-free =
+      m .isEmpty .free right bottom (omega (arith, m .isEmpty .wide)) (omega (arith, m .isEmpty .wide)) (omega (arith, m .isEmpty .tall)) (omega (arith, m .isEmpty .tall))
+
+  tall-enough : a .h ≤ upwards occ right bottom
+  tall-enough =
+      upwards-ge occ right bottom (a .h) (omega (arith, m .isEmpty .tall))
+      (λ r p q. m .isEmpty .free right r (omega (arith, m .isEmpty .wide)) (omega (arith, m .isEmpty .wide)) (omega (arith, m .isEmpty .tall)) (omega (arith, m .isEmpty .tall)))
+
+  -- the cell to the right is occupied, or stands on a shorter run
+  smaller : a .x + a .w < W → ltZ (weight t (a .x + a .w) bottom) (weight t right bottom) ≡ true
+  smaller p = go (occ (a .x + a .w) bottom) refl
+    where
+      go : (b : Bool) → occ (a .x + a .w) bottom ≡ b → ltZ (weight t (a .x + a .w) bottom) (weight t right bottom) ≡ true
+      go true e = ap₂ ltZ (weight-occupied t (a .x + a .w) bottom e .1) (weight-empty t right bottom corner-free)
+      go false e =
+          let k = taken-in occ beside (fails _ (no-wider p)) in
+          let column : k .x ≡ a .x + a .w = omega (arith, k .within .left, k .within .right) in
+          let short : upwards occ (a .x + a .w) bottom < a .h =
+          ⊎-elim
+          (λ (q : upwards occ (a .x + a .w) bottom < a .h). q)
+          (λ (q : a .h ≤ upwards occ (a .x + a .w) bottom).
+          not-both (occ (k .x) (k .y)) (k .taken)
+          (ap (λ c. occ c (k .y)) column ∙ upwards-free occ (a .x + a .w) bottom (k .y) (omega (arith, k .within .bottom)) (omega (arith, k .within .top, m .isEmpty .tall))))
+          (lt-or-le (upwards occ (a .x + a .w) bottom) (a .h)) in
+          ap₂ ltZ (weight-empty t (a .x + a .w) bottom e) (weight-empty t right bottom corner-free)
+          ∙ lt-ltb (upwards occ (a .x + a .w) bottom) (upwards occ right bottom) (omega (arith, tall-enough))
+
+  -- THE LOWER RIGHT CELL OF EACH MAXIMAL RECTANGLE IS A CORNER
+  pub lower-right-corner : corner W H t right bottom ≡ true
+  unfolding corner
+  lower-right-corner =
+      let q : suc right ≡ a .x + a .w = omega (arith, m .isEmpty .wide) in
+      and-both (and-both (ap not corner-free) bottom-scanned)
+      (rw q
+      (⊎-elim
+      (λ (p : a .x + a .w < W). or-right (eqb (a .x + a .w) W) _ (smaller p))
+      (λ (p : W ≤ a .x + a .w). or-left (eqb (a .x + a .w) W) _ (eq-eqb (a .x + a .w) W (omega (arith, m .isEmpty .columns))))
+      (lt-or-le (a .x + a .w) W)))

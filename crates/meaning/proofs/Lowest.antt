@@ -1,0 +1,92 @@
+-- The code given is the lowest one that applies: for every list of lines whose codes rise. Assumes nothing.
+use mathlib.Core.Path.{_≡_, refl, sym, ap, _∙_}
+use mathlib.Core.Bool.{Bool, true, false, cond, _&&_}
+use mathlib.Core.Logic.{_⊎_, inl, inr, ⊎-elim}
+use mathlib.Core.List.{List, [], _∷_, List·Memᴰ, List·Memᴰ·head, List·Memᴰ·tail, List·Memᴰ·not-nil, List·Memᴰ·cases-cons}
+use Prim.Native.Nat.{ℕ, zero, suc, _+_, _≤_, _<_}
+use native.Mathlib.Nat.{le-refl}
+use native.Mathlib.Omega.{arith}
+use lib.Dec.{ltb}
+use lib.IntN.{ℤ}
+use borrow.Author.Tests.{ltb-true}
+use Rattle.rules.specs.Judging.{Line, first}
+use Rattle.rules.specs.Requests.{judging}
+use Rattle.rules.specs.Calls.{clearLines, checkLines, runLines, listLines}
+use Rattle.rules.proofs.Tests.{and-left, and-right, not-both}
+
+-- the codes rise from line to line, and all are above n
+unfoldable pub rising : ℕ → List Line → Bool
+rising n [] = true
+rising n (l ∷ ls) = ltb n (l .code) && rising (l .code) ls
+
+-- c is the lowest code of the lines that apply; 0 stands for none
+pub record Lowest (ls : List Line) (c : ℕ) : Type 0 where
+  pub least : (l : Line) → List·Memᴰ l ls → l .applies ≡ true → (1 ≤ c) × (c ≤ l .code)
+  pub given : 1 ≤ c → (l : Line) × List·Memᴰ l ls × (l .code ≡ c) × (l .applies ≡ true)
+
+rising-above : (n : ℕ) (ls : List Line) → rising n ls ≡ true → (l : Line) → List·Memᴰ l ls → n < l .code
+unfolding rising
+rising-above n [] e l m = absurd (List·Memᴰ·not-nil m)
+rising-above n (k ∷ ls) e l m =
+    let a = ltb-true n (k .code) (and-left (ltb n (k .code)) (rising (k .code) ls) e) in
+    ⊎-elim
+    (λ (q : l ≡ k). let z : l .code ≡ k .code = ap (λ (j : Line). j .code) q in omega arith)
+    (λ p. let b = rising-above (k .code) ls (and-right (ltb n (k .code)) (rising (k .code) ls) e) l p in omega arith)
+    (List·Memᴰ·cases-cons m)
+
+-- THE FIRST CODE THAT APPLIES IS THE LOWEST, WHERE CODES RISE
+pub first-lowest : (n : ℕ) (ls : List Line) → rising n ls ≡ true → Lowest ls (first ls)
+unfolding rising first
+first-lowest n [] e = record { least = λ l m. absurd (List·Memᴰ·not-nil m); given = λ h. absurd (omega arith) }
+first-lowest n (k ∷ ls) e = go (k .applies) refl (first-lowest (k .code) ls up)
+  where
+    up : rising (k .code) ls ≡ true
+    up = and-right (ltb n (k .code)) (rising (k .code) ls) e
+
+    low : n < k .code
+    low = ltb-true n (k .code) (and-left (ltb n (k .code)) (rising (k .code) ls) e)
+
+    go : (b : Bool) → k .applies ≡ b → Lowest ls (first ls) → Lowest (k ∷ ls) (cond b (k .code) (first ls))
+    go true q r = record {
+      least = λ l m a.
+          ⊎-elim
+          (λ (z : l ≡ k). let y : l .code ≡ k .code = ap (λ (j : Line). j .code) z in omega (arith, low))
+          (λ p. omega (arith, low, rising-above (k .code) ls up l p))
+          (List·Memᴰ·cases-cons m);
+      given = λ h. (k, List·Memᴰ·head refl, refl, q);
+    }
+    go false q r = record {
+      least = λ l m a.
+          ⊎-elim
+          (λ (z : l ≡ k). not-both (l .applies) a (ap (λ (j : Line). j .applies) z ∙ q))
+          (λ p. r .least l p a)
+          (List·Memᴰ·cases-cons m);
+      given = λ h. let g = r .given h in (g .0, List·Memᴰ·tail (g .1), g .2, g .3);
+    }
+
+-- the lowest code is one
+pub lowest-one : (ls : List Line) (c d : ℕ) → Lowest ls c → Lowest ls d → c ≡ d
+lowest-one ls zero zero p q = refl
+lowest-one ls zero (suc d) p q = let g = q .given (omega arith) in absurd (let h = p .least (g .0) (g .1) (g .3) in omega arith)
+lowest-one ls (suc c) zero p q = let g = p .given (omega arith) in absurd (let h = q .least (g .0) (g .1) (g .3) in omega arith)
+lowest-one ls (suc c) (suc d) p q =
+    let g = p .given (omega arith) in
+    let k = q .given (omega arith) in
+    omega (arith, q .least (g .0) (g .1) (g .3), p .least (k .0) (k .1) (k .3), g .2, k .2)
+
+-- ---- THE RULES' OWN LISTS RISE
+
+pub judging-lowest : (W H : ℕ) (t q : List ℕ) → Lowest (judging W H t q) (first (judging W H t q))
+judging-lowest W H t q = first-lowest 0 (judging W H t q) (unfold judging rising in refl)
+
+pub clear-lowest : (W H : ℕ) (s : List ℤ) (t : List ℕ) → Lowest (clearLines W H s t) (first (clearLines W H s t))
+clear-lowest W H s t = first-lowest 0 (clearLines W H s t) (unfold clearLines rising in refl)
+
+pub check-lowest : (W H : ℕ) (s : List ℤ) (t : List ℕ) → Lowest (checkLines W H s t) (first (checkLines W H s t))
+check-lowest W H s t = first-lowest 0 (checkLines W H s t) (unfold checkLines rising in refl)
+
+pub run-lowest : (W H : ℕ) (s : List ℤ) (t b a : List ℕ) → Lowest (runLines W H s t b a) (first (runLines W H s t b a))
+run-lowest W H s t b a = first-lowest 0 (runLines W H s t b a) (unfold runLines rising in refl)
+
+pub list-lowest : (W H : ℕ) (s : List ℤ) (t room : List ℕ) → Lowest (listLines W H s t room) (first (listLines W H s t room))
+list-lowest W H s t room = first-lowest 0 (listLines W H s t room) (unfold listLines rising in refl)

@@ -1,0 +1,158 @@
+-- What a weight tells: the run of empty cells that ends in a cell, and the sign. Callers cite these laws and never the text of `weight`. Assumes nothing.
+use mathlib.Core.Path.{_≡_, refl, sym, ap, ap₂, _∙_, subst}
+use mathlib.Core.Bool.{Bool, true, false, not, cond, _&&_}
+use mathlib.Core.Logic.{⊎-elim}
+use mathlib.Core.List.{List}
+use Prim.Native.Nat.{ℕ, zero, suc, _+_, _-_, _*_, _/_, _%_, _≤_, _<_}
+use native.Mathlib.Nat.{le-refl, eq-or-lt-of-le}
+use native.Mathlib.Omega.{arith}
+use lib.Arith.{digits-lt, digits-div, digits-mod}
+use lib.Dec.{leb, ltb}
+use lib.IntN.{ℤ, pos, negsuc, negℤ}
+use lib.ListN.{length, getD}
+use lib.Signed.{ltZ}
+use borrow.Author.Tests.{leb-true, ltb-true, lt-ltb}
+use Rattle.rules.specs.Tests.{every, eqZ}
+use Rattle.rules.specs.Surface.{covers, slots, rectOf, usedSlot, holds, occupied, holder, upwards, remaining, weight, cell, fresh, slotsSound, idsDiffer, modulesApart, weightsRight, stands}
+use Rattle.rules.specs.declared.Rect.{Rect}
+use Rattle.rules.proofs.Tests.{and-left, and-right, and-four, any-at, least-is, Least, fails, every-at, eqZ-true, length-tab, getD-tab}
+
+-- ---- the run of empty cells that ends in cell (x, y)
+
+module _ (occ : ℕ → ℕ → Bool) (x : ℕ) where
+  pub upwards-le : (y : ℕ) → upwards occ x y ≤ suc y
+  unfolding upwards
+  upwards-le zero = go (occ x 0)
+    where
+      go : (t : Bool) → cond t 0 1 ≤ 1
+      go true = omega arith
+      go false = omega arith
+  upwards-le (suc y) = go (occ x (suc y)) (upwards-le y)
+    where
+      go : (t : Bool) → upwards occ x y ≤ suc y → cond t 0 (suc (upwards occ x y)) ≤ suc (suc y)
+      go true h = omega arith
+      go false h = omega arith
+
+  -- its cells are empty
+  pub upwards-free : (y r : ℕ) → r ≤ y → suc y ≤ r + upwards occ x y → occ x r ≡ false
+  unfolding upwards
+  upwards-free zero r p q = go (occ x 0) refl q
+    where
+      go : (t : Bool) → occ x 0 ≡ t → 1 ≤ r + cond t 0 1 → occ x r ≡ false
+      go true s h = absurd (omega arith)
+      go false s h = let z : r ≡ 0 = omega arith in rw z s
+  upwards-free (suc y) r p q = go (occ x (suc y)) refl q (upwards-free y r)
+    where
+      go : (t : Bool) → occ x (suc y) ≡ t → suc (suc y) ≤ r + cond t 0 (suc (upwards occ x y)) → (r ≤ y → suc y ≤ r + upwards occ x y → occ x r ≡ false) → occ x r ≡ false
+      go true s h ih = absurd (omega arith)
+      go false s h ih =
+          ⊎-elim
+          (λ (z : r ≡ suc y). rw z s)
+          (λ (z : r < suc y). ih (omega arith) (omega arith))
+          (eq-or-lt-of-le p)
+
+  -- and it is as long as the empty cells reach
+  pub upwards-ge : (y h : ℕ) → h ≤ suc y → ((r : ℕ) → r ≤ y → suc y ≤ r + h → occ x r ≡ false) → h ≤ upwards occ x y
+  unfolding upwards
+  upwards-ge y zero p q = omega arith
+  upwards-ge zero (suc h) p q = rw (q 0 (le-refl 0) (omega arith)) (omega arith)
+  upwards-ge (suc y) (suc h) p q =
+      rw (q (suc y) (le-refl (suc y)) (omega arith)) (omega (arith, upwards-ge y h (omega arith) (λ r a b. q r (omega arith) (omega arith))))
+
+-- ---- covers
+
+pub record Within (r : Rect) (x y : ℕ) : Type 0 where
+  pub left : r .x ≤ x
+  pub right : x < r .x + r .w
+  pub top : r .y ≤ y
+  pub bottom : y < r .y + r .h
+
+pub covers-within : (r : Rect) (x y : ℕ) → covers r x y ≡ true → Within r x y
+unfolding covers
+covers-within r x y e =
+    let f = and-four (leb (r .x) x) (ltb x (r .x + r .w)) (leb (r .y) y) (ltb y (r .y + r .h)) e in
+    record { left = leb-true _ _ (f .0); right = ltb-true _ _ (f .1); top = leb-true _ _ (f .2); bottom = ltb-true _ _ (f .3) }
+
+-- ---- the sign of a weight
+
+module _ (t : List ℕ) (x y : ℕ) where
+  pub holds-covers : (i : ℕ) → holds t x y i ≡ true → covers (rectOf t i) x y ≡ true
+  unfolding holds
+  holds-covers i e = and-right (usedSlot t i) _ e
+
+  pub holds-used : (i : ℕ) → holds t x y i ≡ true → usedSlot t i ≡ true
+  unfolding holds
+  holds-used i e = and-left (usedSlot t i) _ e
+
+  -- the holder of an occupied cell has it
+  pub holder-low : occupied t x y ≡ true → holder t x y < slots t
+  unfolding occupied holder
+  holder-low e =
+      let w = any-at (slots t) (holds t x y) e in
+      let l = least-is (slots t) (holds t x y) in
+      ⊎-elim
+      (λ (q : holder t x y ≡ slots t). absurd (mathlib.Core.Bool.true≢false (sym (w .2) ∙ l .before (w .0) (omega arith) (omega (arith, w .1)))))
+      (λ (q : holder t x y < slots t). q)
+      (eq-or-lt-of-le (let u : holder t x y ≤ slots t = omega (arith, l .upto) in u))
+
+  pub holder-holds : occupied t x y ≡ true → holds t x y (holder t x y) ≡ true
+  unfolding holder
+  holder-holds e = let h = holder-low e in least-is (slots t) (holds t x y) .here (omega arith)
+
+  -- the width that remains, at least 1
+  pub weight-occupied : occupied t x y ≡ true → (k : ℕ) × (weight t x y ≡ negsuc k)
+  unfolding weight remaining
+  weight-occupied e =
+      let r = rectOf t (holder t x y) in
+      let i = covers-within r x y (holds-covers (holder t x y) (holder-holds e)) in
+      let q : r .x + r .w - x ≡ suc (r .x + r .w - x - 1) = omega (arith, i .right) in
+      (r .x + r .w - x - 1, rw e (ap (λ n. negℤ (pos n)) q))
+
+  pub weight-empty : occupied t x y ≡ false → weight t x y ≡ pos (upwards (occupied t) x y)
+  unfolding weight
+  weight-empty e = rw e
+
+  -- an empty cell counts itself
+  pub upwards-pos : occupied t x y ≡ false → 1 ≤ upwards (occupied t) x y
+  upwards-pos e = upwards-ge (occupied t) x y 1 (omega arith) (λ r p q. let z : r ≡ y = omega arith in ap (occupied t x) z ∙ e)
+
+  -- A WEIGHT IS POSITIVE EXACTLY WHEN THE CELL IS EMPTY
+  pub weight-sign : ltZ (pos 0) (weight t x y) ≡ not (occupied t x y)
+  weight-sign = go (occupied t x y) refl
+    where
+      go : (b : Bool) → occupied t x y ≡ b → ltZ (pos 0) (weight t x y) ≡ not b
+      go true e = ap (ltZ (pos 0)) (weight-occupied e .1)
+      go false e = ap (ltZ (pos 0)) (weight-empty e) ∙ lt-ltb 0 _ (upwards-pos e)
+
+-- ---- the weights of a surface that stands
+
+module _ (W H : ℕ) (s : List ℤ) (t : List ℕ) (e : stands W H s t ≡ true) where
+  stands-four : (slotsSound W H t ≡ true) × (idsDiffer t ≡ true) × (modulesApart W H t ≡ true) × (weightsRight W H s t ≡ true)
+  unfolding stands
+  stands-four = and-four (slotsSound W H t) (idsDiffer t) (modulesApart W H t) (weightsRight W H s t) e
+
+  pub stands-slots : slotsSound W H t ≡ true
+  stands-slots = stands-four .0
+
+  pub stands-ids : idsDiffer t ≡ true
+  stands-ids = stands-four .1
+
+  pub stands-apart : modulesApart W H t ≡ true
+  stands-apart = stands-four .2
+
+  pub stands-cell : (x y : ℕ) → x < W → y < H → cell W s x y ≡ weight t x y
+  unfolding weightsRight
+  stands-cell x y p q =
+      let row = every-at H (λ y. every W (λ x. eqZ (cell W s x y) (weight t x y))) (stands-four .3) y q in
+      eqZ-true (cell W s x y) (weight t x y) (every-at W (λ x. eqZ (cell W s x y) (weight t x y)) row x p)
+
+  -- ON A STANDING SURFACE A LENT WEIGHT IS POSITIVE EXACTLY WHEN ITS CELL IS EMPTY
+  pub stands-sign : (x y : ℕ) → x < W → y < H → ltZ (pos 0) (cell W s x y) ≡ not (occupied t x y)
+  stands-sign x y p q = ap (ltZ (pos 0)) (stands-cell x y p q) ∙ weight-sign t x y
+
+-- the weights worked out afresh have at each cell its weight
+pub fresh-cell : (W H : ℕ) (t : List ℕ) (x y : ℕ) → x < W → y < H → cell W (fresh W H t) x y ≡ weight t x y
+unfolding fresh
+fresh-cell W H t x y p q =
+    getD-tab (W * H) (y * W + x) (λ k. weight t (k % W) (k / W)) (pos 0) (let d = digits-lt q p in omega (arith, native.Mathlib.Nat.mul-comm W H))
+    ∙ ap₂ (weight t) (digits-mod y p) (digits-div y p)
