@@ -12,7 +12,7 @@ use borrow.Author.Tests.{leb-true, le-leb, ltb-true, ltb-false}
 use Rattle.rules.specs.Tests.{any, keep}
 use Rattle.rules.specs.Surface.{rect}
 use Rattle.rules.specs.Empties.{empty, Inside, Empty, Maximal, maximal, entries}
-use Rattle.rules.specs.Requests.{position, room, cost, cheapest, chosenOf, chosen, lowerLeft, standing, rulePlace}
+use Rattle.rules.specs.Requests.{position, fits, cost, cheapest, chosenOf, chosen, lowerLeft, standing, rulePlace}
 use Rattle.rules.specs.declared.Rect.{Rect}
 use Rattle.rules.proofs.Tests.{and-left, and-right, and-both, decide, any-at, any-yes, keep-mem, mem-keep}
 use Rattle.meaning.proofs.Rectangles.{rect-eq, empty-is, part-empty, maximal-is, larger, Larger, entries-are}
@@ -163,19 +163,19 @@ module _ (occ : ℕ → ℕ → Bool) (W H : ℕ) (rule w h : ℕ) where
     pub isMaximal : Maximal occ W H entry
     pub wide : w ≤ entry .w
     pub high : h ≤ entry .h
-    pub best : FirstLeast (cost W H w h rule) (keep (room w h) (entries occ W H)) entry
+    pub best : FirstLeast (cost W H w h rule) (keep (fits w h) (entries occ W H)) entry
     pub is : r ≡ lowerLeft w h entry
 
   -- A PLACE BY RULE IS THE LOWER LEFT CORNER OF THE FIRST ENTRY WITH ROOM THAT COSTS LEAST
   pub rulePlace-is : (r : Rect) → rulePlace occ W H rule w h ≡ some r → ByRule r
   unfolding rulePlace chosen
-  rulePlace-is r e = go (chosenOf (cost W H w h rule) (keep (room w h) (entries occ W H))) refl e
+  rulePlace-is r e = go (chosenOf (cost W H w h rule) (keep (fits w h) (entries occ W H))) refl e
     where
-      go : (o : Option Rect) → chosenOf (cost W H w h rule) (keep (room w h) (entries occ W H)) ≡ o → standing w h o ≡ some r → ByRule r
+      go : (o : Option Rect) → chosenOf (cost W H w h rule) (keep (fits w h) (entries occ W H)) ≡ o → standing w h o ≡ some r → ByRule r
       go none p q = absurd (let z : _≡_ {A = ℕ} 0 1 = cc in omega arith)
       go (some c) p q =
-          let m = chosenOf-mem (cost W H w h rule) (keep (room w h) (entries occ W H)) c p in
-          let k = mem-keep (room w h) (entries occ W H) (m .0) in
+          let m = chosenOf-mem (cost W H w h rule) (keep (fits w h) (entries occ W H)) c p in
+          let k = mem-keep (fits w h) (entries occ W H) (m .0) in
           let s : lowerLeft w h c ≡ r = cc in
           record {
             entry = c;
@@ -211,13 +211,13 @@ module _ (occ : ℕ → ℕ → Bool) (W H : ℕ) (rule w h : ℕ) where
           let eh : r .h ≡ h = ap (λ (a : Rect). a .h) (b .is) in
           let s : r ≡ rect (r .x) (r .y) w h = rect-eq r (rect (r .x) (r .y) w h) refl refl ew eh in
           any-yes H _ (r .y) (omega (arith, e .lines, e .tall))
-          (any-yes W _ (r .x) (omega (arith, e .columns, e .wide)) (ap (empty occ W H) {y = r} (sym s) ∙ empty-is occ W H r .1 e))),
+          (any-yes W _ (r .x) (omega (arith, e .columns, e .wide)) (ap (empty occ W H) (sym s) ∙ empty-is occ W H r .1 e))),
       (λ p.
           let y = any-at H (λ y. any W (λ x. empty occ W H (rect x y w h))) p in
           let x = any-at W (λ x. empty occ W H (rect x (y .0) w h)) (y .2) in
           let g = grown occ W H (rect (x .0) (y .0) w h) (empty-is occ W H _ .0 (x .2)) in
           let b = g .to in
-          let roomy : room w h b ≡ true = and-both (le-leb w (b .w) (omega (arith, g .inside .left, g .inside .right))) (le-leb h (b .h) (omega (arith, g .inside .top, g .inside .bottom))) in
-          let c = chosenOf-some (cost W H w h rule) _ (keep-mem (room w h) (entries occ W H) (entries-are occ W H b .1 (g .isMaximal)) roomy) in
+          let fitting : fits w h b ≡ true = and-both (le-leb w (b .w) (omega (arith, g .inside .left, g .inside .right))) (le-leb h (b .h) (omega (arith, g .inside .top, g .inside .bottom))) in
+          let c = chosenOf-some (cost W H w h rule) _ (keep-mem (fits w h) (entries occ W H) (entries-are occ W H b .1 (g .isMaximal)) fitting) in
           (lowerLeft w h (c .0), ap (standing w h) (c .1))),
     )

@@ -1,18 +1,18 @@
 -- The lower right cell of each maximal rectangle is a corner, and its row is scanned. Assumes nothing.
 use mathlib.Core.Path.{_≡_, refl, sym, ap, ap₂, _∙_}
-use mathlib.Core.Bool.{Bool, true, false, not, _&&_, _||_}
+use mathlib.Core.Bool.{Bool, true, false, not, cond, _&&_, _||_}
 use mathlib.Core.Logic.{_⊎_, inl, inr, ⊎-elim}
 use mathlib.Core.List.{List}
-use Prim.Native.Nat.{ℕ, zero, suc, _+_, _-_, _≤_, _<_}
-use native.Mathlib.Nat.{le-refl, eq-or-lt-of-le}
+use Prim.Native.Nat.{ℕ, zero, suc, _+_, _-_, _*_, _≤_, _<_}
+use native.Mathlib.Nat.{le-refl, eq-or-lt-of-le, mul-comm}
 use native.Mathlib.Omega.{arith}
 use lib.Dec.{leb, ltb, eqb}
 use lib.IntN.{pos}
 use lib.Signed.{ltZ}
 use borrow.Author.Tests.{le-leb, lt-ltb, eq-eqb, not-false}
-use Rattle.rules.specs.Tests.{every, any}
+use Rattle.rules.specs.Tests.{every, any, total, count}
 use Rattle.rules.specs.Surface.{rect, covers, slots, rectOf, usedSlot, holds, occupied, upwards, weight}
-use Rattle.rules.specs.Empties.{cellsEmpty, Inside, Empty, Maximal, scanned, corner}
+use Rattle.rules.specs.Empties.{cellsEmpty, Inside, Empty, Maximal, scanned, corner, corners}
 use Rattle.rules.specs.declared.Rect.{Rect}
 use Rattle.rules.proofs.Tests.{and-both, four-and, not-both, or-left, or-right, decide, fails, every-fails, any-at, any-yes}
 use Rattle.meaning.proofs.Rectangles.{cellsEmpty-at}
@@ -171,3 +171,19 @@ module _ (t : List ℕ) (W H : ℕ) (a : Rect) (m : Maximal (occupied t) W H a) 
       (λ (p : a .x + a .w < W). or-right (eqb (a .x + a .w) W) _ (smaller p))
       (λ (p : W ≤ a .x + a .w). or-left (eqb (a .x + a .w) W) _ (eq-eqb (a .x + a .w) W (omega (arith, m .isEmpty .columns))))
       (lt-or-le (a .x + a .w) W)))
+
+-- a sum of n numbers of at most k each
+total-le : (n k : ℕ) (f : ℕ → ℕ) → ((j : ℕ) → f j ≤ k) → total n f ≤ n * k
+unfolding total
+total-le zero k f h = omega arith
+total-le (suc n) k f h = omega (arith, total-le n k f h, h n)
+
+one-or-none : (b : Bool) → cond b 1 0 ≤ 1
+one-or-none true = omega arith
+one-or-none false = omega arith
+
+-- AT MOST W·H CORNERS
+pub corners-few : (W H : ℕ) (t : List ℕ) → corners W H t ≤ W * H
+unfolding corners
+corners-few W H t =
+    omega (arith, total-le H W (λ y. count W (λ x. corner W H t x y)) (λ y. omega (arith, total-le W 1 (λ x. cond (corner W H t x y) 1 0) (λ x. one-or-none (corner W H t x y)))), mul-comm W H)

@@ -1,4 +1,5 @@
 -- Theorems about the rules. `Theorems` first: the statements, with what each rests on.
+pub mod Theorems
 pub mod Rectangles
 pub mod Order
 pub mod Bound

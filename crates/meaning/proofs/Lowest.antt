@@ -6,11 +6,14 @@ use mathlib.Core.List.{List, [], _∷_, List·Memᴰ, List·Memᴰ·head, List·
 use Prim.Native.Nat.{ℕ, zero, suc, _+_, _≤_, _<_}
 use native.Mathlib.Nat.{le-refl}
 use native.Mathlib.Omega.{arith}
-use lib.Dec.{ltb}
+use lib.Dec.{ltb, eqb}
 use lib.IntN.{ℤ}
-use borrow.Author.Tests.{ltb-true}
+use borrow.Author.Tests.{ltb-true, eqb-false}
 use Rattle.rules.specs.Judging.{Line, first}
-use Rattle.rules.specs.Requests.{judging}
+use Rattle.rules.specs.Surface.{occupied, rectOf}
+use Rattle.rules.specs.Requests.{soundLines, placeLines, judging, isPlace, isRemove, isPin, isExchange, idAsked, ruleOf, wide, high, slotOf, lowestFree, ground, pinned, rulePlace, orNone, acceptedStep, stepOf}
+use Rattle.rules.specs.declared.Rect.{Rect}
+use Rattle.rules.specs.declared.Step.the-variants.{Refused, Placed, Removed}
 use Rattle.rules.specs.Calls.{clearLines, checkLines, runLines, listLines}
 use Rattle.rules.proofs.Tests.{and-left, and-right, not-both}
 
@@ -77,7 +80,7 @@ lowest-one ls (suc c) (suc d) p q =
 -- ---- THE RULES' OWN LISTS RISE
 
 pub judging-lowest : (W H : ℕ) (t q : List ℕ) → Lowest (judging W H t q) (first (judging W H t q))
-judging-lowest W H t q = first-lowest 0 (judging W H t q) (unfold judging rising in refl)
+judging-lowest W H t q = first-lowest 0 (judging W H t q) (unfold soundLines placeLines rising in refl)
 
 pub clear-lowest : (W H : ℕ) (s : List ℤ) (t : List ℕ) → Lowest (clearLines W H s t) (first (clearLines W H s t))
 clear-lowest W H s t = first-lowest 0 (clearLines W H s t) (unfold clearLines rising in refl)
@@ -90,3 +93,42 @@ run-lowest W H s t b a = first-lowest 0 (runLines W H s t b a) (unfold runLines 
 
 pub list-lowest : (W H : ℕ) (s : List ℤ) (t room : List ℕ) → Lowest (listLines W H s t room) (first (listLines W H s t room))
 list-lowest W H s t room = first-lowest 0 (listLines W H s t room) (unfold listLines rising in refl)
+
+-- ---- a refusal has a code of its own
+
+-- every line's code is above n, so what is given is 0 or above n
+first-above : (n : ℕ) (ls : List Line) → rising n ls ≡ true → 1 ≤ first ls → n < first ls
+first-above n ls e h = let g = first-lowest n ls e .given h in omega (arith, rising-above n ls e (g .0) (g .1), g .2)
+
+refused-eq : (a b : ℕ) → Refused a ≡ Refused b → a ≡ b
+refused-eq a b e = cc
+
+-- an accepted request is no refusal, save where no operation is known
+refused-by : (W H : ℕ) (t q : List ℕ) (c : ℕ) → acceptedStep W H t q ≡ Refused c → c ≡ 11
+unfolding acceptedStep
+refused-by W H t q c e = go (isPlace q) (isRemove q) (isPin q) (isExchange q) e
+  where
+    old : ℕ
+    old = slotOf t (idAsked q)
+
+    r : Rect
+    r = orNone (rulePlace (occupied (ground t q)) W H (ruleOf q) (wide q) (high q))
+
+    go : (a b d f : Bool) → cond a (Placed (lowestFree t) r) (cond b (Removed old (rectOf t old)) (cond d (Placed (lowestFree t) (pinned q)) (cond f (Placed old r) (Refused 11)))) ≡ Refused c → c ≡ 11
+    go true b d f p = absurd (let z : _≡_ {A = ℕ} 0 1 = cc in omega arith)
+    go false true d f p = absurd (let z : _≡_ {A = ℕ} 0 1 = cc in omega arith)
+    go false false true f p = absurd (let z : _≡_ {A = ℕ} 0 1 = cc in omega arith)
+    go false false false true p = absurd (let z : _≡_ {A = ℕ} 0 1 = cc in omega arith)
+    go false false false false p = sym (refused-eq 11 c p)
+
+pub refused-code : (W H : ℕ) (t q : List ℕ) (c : ℕ) → stepOf W H t q ≡ Refused c → 11 ≤ c
+unfolding stepOf
+refused-code W H t q c e = go (eqb (first (judging W H t q)) 0) refl e
+  where
+    go : (b : Bool) → eqb (first (judging W H t q)) 0 ≡ b → cond b (acceptedStep W H t q) (Refused (first (judging W H t q))) ≡ Refused c → 11 ≤ c
+    go true p s = let z = refused-by W H t q c s in omega arith
+    go false p s =
+        let z = refused-eq _ c s in
+        let n = eqb-false (first (judging W H t q)) 0 p in
+        let a = first-above 10 (judging W H t q) (unfold soundLines placeLines rising in refl) (omega arith) in
+        omega arith

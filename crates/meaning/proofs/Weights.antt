@@ -1,10 +1,10 @@
 -- What a weight tells: the run of empty cells that ends in a cell, and the sign. Callers cite these laws and never the text of `weight`. Assumes nothing.
 use mathlib.Core.Path.{_≡_, refl, sym, ap, ap₂, _∙_, subst}
-use mathlib.Core.Bool.{Bool, true, false, not, cond, _&&_}
+use mathlib.Core.Bool.{Bool, true, false, not, cond, _&&_, true≢false}
 use mathlib.Core.Logic.{⊎-elim}
 use mathlib.Core.List.{List}
 use Prim.Native.Nat.{ℕ, zero, suc, _+_, _-_, _*_, _/_, _%_, _≤_, _<_}
-use native.Mathlib.Nat.{le-refl, eq-or-lt-of-le}
+use native.Mathlib.Nat.{le-refl, eq-or-lt-of-le, mul-comm}
 use native.Mathlib.Omega.{arith}
 use lib.Arith.{digits-lt, digits-div, digits-mod}
 use lib.Dec.{leb, ltb}
@@ -91,7 +91,7 @@ module _ (t : List ℕ) (x y : ℕ) where
       let w = any-at (slots t) (holds t x y) e in
       let l = least-is (slots t) (holds t x y) in
       ⊎-elim
-      (λ (q : holder t x y ≡ slots t). absurd (mathlib.Core.Bool.true≢false (sym (w .2) ∙ l .before (w .0) (omega arith) (omega (arith, w .1)))))
+      (λ (q : holder t x y ≡ slots t). absurd (true≢false (sym (w .2) ∙ l .before (w .0) (omega arith) (omega (arith, w .1)))))
       (λ (q : holder t x y < slots t). q)
       (eq-or-lt-of-le (let u : holder t x y ≤ slots t = omega (arith, l .upto) in u))
 
@@ -154,5 +154,5 @@ module _ (W H : ℕ) (s : List ℤ) (t : List ℕ) (e : stands W H s t ≡ true)
 pub fresh-cell : (W H : ℕ) (t : List ℕ) (x y : ℕ) → x < W → y < H → cell W (fresh W H t) x y ≡ weight t x y
 unfolding fresh
 fresh-cell W H t x y p q =
-    getD-tab (W * H) (y * W + x) (λ k. weight t (k % W) (k / W)) (pos 0) (let d = digits-lt q p in omega (arith, native.Mathlib.Nat.mul-comm W H))
+    getD-tab (W * H) (y * W + x) (λ k. weight t (k % W) (k / W)) (pos 0) (let d = digits-lt q p in omega (arith, mul-comm W H))
     ∙ ap₂ (weight t) (digits-mod y p) (digits-div y p)

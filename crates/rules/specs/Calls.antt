@@ -13,7 +13,7 @@ use Rattle.rules.specs.Judging.{Line, _when_, first}
 use Rattle.rules.specs.Blocks.{State, started, requests, after}
 use Rattle.rules.specs.declared.Rect.{Rect}
 
--- ---- the codes, "given exactly when"; "The lowest code that applies is given."
+-- ---- the codes, "Given exactly when"; "The lowest code that applies is given."
 
 -- 1: W or H not in 1..64
 abbrev pub badSize : ℕ → ℕ → Bool
@@ -47,10 +47,21 @@ entriesOf W H t = entries (occupied t) W H
 abbrev pub shortRoom : ℕ → ℕ → List ℕ → List ℕ → Bool
 shortRoom W H t room = ltb (length room) (8 * length (entriesOf W H t))
 
+-- every call begins with these, and all but clear go on to ask whether the surface stands
+abbrev pub sizeLines : ℕ → ℕ → List ℤ → List ℕ → List Line
+sizeLines W H s t = 1 when badSize W H ∷ 2 when badWeights W H s ∷ 3 when badTable t ∷ []
+
+abbrev pub standLines : ℕ → ℕ → List ℤ → List ℕ → List Line
+standLines W H s t = let unsound = fallen W H s t in 6 when unsound ∷ []
+
+-- "A result is code + 2^16·first count + 2^32·second."
+abbrev pub resultOf : ℕ → ℕ → ℕ → ℕ
+resultOf code one two = code + 65536 * one + 4294967296 * two
+
 -- ---- clear: codes 1, 2, 3; no count
 
 unfoldable pub clearLines : ℕ → ℕ → List ℤ → List ℕ → List Line
-clearLines W H s t = 1 when badSize W H ∷ 2 when badWeights W H s ∷ 3 when badTable t ∷ []
+clearLines W H s t = sizeLines W H s t
 
 unfoldable pub clearCode : ℕ → ℕ → List ℤ → List ℕ → ℕ
 clearCode W H s t = first (clearLines W H s t)
@@ -74,10 +85,13 @@ clear W H s t =
     let table = clearedTable t in
     record { code = clearCode W H s t; weights = cond done weights s; table = cond done table t }
 
+abbrev pub clearResult : Cleared → ℕ
+clearResult r = resultOf (r .code) 0 0
+
 -- ---- check: codes 1, 2, 3, 6; counts the used slots. It writes nothing
 
 unfoldable pub checkLines : ℕ → ℕ → List ℤ → List ℕ → List Line
-checkLines W H s t = let unsound = fallen W H s t in 1 when badSize W H ∷ 2 when badWeights W H s ∷ 3 when badTable t ∷ 6 when unsound ∷ []
+checkLines W H s t = sizeLines W H s t ++ standLines W H s t
 
 unfoldable pub checkCode : ℕ → ℕ → List ℤ → List ℕ → ℕ
 checkCode W H s t = first (checkLines W H s t)
@@ -91,12 +105,13 @@ check W H s t =
     let used = usedSlots t in
     record { code = checkCode W H s t; used = cond (eqb (checkCode W H s t) 0) used 0 }
 
+abbrev pub checkResult : Checked → ℕ
+checkResult r = resultOf (r .code) (r .used) 0
+
 -- ---- run a block: codes 1 to 6; counts the requests accepted
 
 unfoldable pub runLines : ℕ → ℕ → List ℤ → List ℕ → List ℕ → List ℕ → List Line
-runLines W H s t b a =
-    let unsound = fallen W H s t in
-    1 when badSize W H ∷ 2 when badWeights W H s ∷ 3 when badTable t ∷ 4 when badBlock b ∷ 5 when badAnswers b a ∷ 6 when unsound ∷ []
+runLines W H s t b a = sizeLines W H s t ++ (4 when badBlock b ∷ 5 when badAnswers b a ∷ []) ++ standLines W H s t
 
 unfoldable pub runCode : ℕ → ℕ → List ℤ → List ℕ → List ℕ → List ℕ → ℕ
 runCode W H s t b a = first (runLines W H s t b a)
@@ -116,13 +131,13 @@ run W H s t b a =
     let left : State = cond done end refused in
     record { code = runCode W H s t b a; accepted = left .accepted; weights = left .weights; table = left .table; answers = left .answers }
 
+abbrev pub runResult : Ran → ℕ
+runResult r = resultOf (r .code) (r .accepted) 0
+
 -- ---- list: codes 1, 2, 3, 6, 7; counts entries and corners. It writes to the room alone
 
 unfoldable pub listLines : ℕ → ℕ → List ℤ → List ℕ → List ℕ → List Line
-listLines W H s t room =
-    let unsound = fallen W H s t in
-    let tooShort = shortRoom W H t room in
-    1 when badSize W H ∷ 2 when badWeights W H s ∷ 3 when badTable t ∷ 6 when unsound ∷ 7 when tooShort ∷ []
+listLines W H s t room = let tooShort = shortRoom W H t room in sizeLines W H s t ++ standLines W H s t ++ (7 when tooShort ∷ [])
 
 unfoldable pub listCode : ℕ → ℕ → List ℤ → List ℕ → List ℕ → ℕ
 listCode W H s t room = first (listLines W H s t room)
@@ -145,6 +160,5 @@ list W H s t room =
     let written = roomAfter W H t room in
     record { code = listCode W H s t room; entries = cond done found 0; corners = cond done turns 0; room = cond done written room }
 
--- "A result is code + 2^16·first count + 2^32·second."
-abbrev pub resultOf : ℕ → ℕ → ℕ → ℕ
-resultOf code one two = code + 65536 * one + 4294967296 * two
+abbrev pub listResult : Listed → ℕ
+listResult r = resultOf (r .code) (r .entries) (r .corners)

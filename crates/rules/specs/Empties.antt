@@ -1,5 +1,5 @@
--- EMPTY RECTANGLES: maximal ones, the list of them, scanned rows and corners. All but the last two know of the surface only which cells
--- are occupied: occ x y.
+-- EMPTY RECTANGLES: maximal ones, the list of them, scanned rows and corners. Up to the list they know of the surface only
+-- which cells are occupied: occ x y.
 use mathlib.Core.Path.{_≡_}
 use mathlib.Core.Bool.{Bool, true, false, not, _&&_, _||_}
 use mathlib.Core.List.{List, [], _∷_, _++_, List·Memᴰ}

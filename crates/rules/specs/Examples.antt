@@ -1,4 +1,4 @@
--- Examples beside the worked figures, computed: what corners do not tell, and what a removal leaves.
+-- Examples beside the worked figures, computed: what corners do not tell, and cases that A to I do not tell apart.
 use mathlib.Core.Path.{_≡_, refl}
 use mathlib.Core.Bool.{Bool, true, false, not, _&&_}
 use mathlib.Core.List.{List, [], _∷_, _++_}
@@ -7,6 +7,7 @@ use lib.Dec.{eqb}
 use Rattle.rules.specs.Tests.{all}
 use Rattle.rules.specs.Surface.{rect, recordOf, occupied, fresh}
 use Rattle.rules.specs.Empties.{entries, corner, corners}
+use Rattle.rules.specs.Calls.{check, list}
 use Rattle.rules.specs.Figures.{Case, caseHolds, eight, free, e, o}
 use Rattle.rules.specs.declared.Rect.{Rect}
 
@@ -45,43 +46,91 @@ pub other-corners : (corners 2 3 two ≡ 3) × (corners 2 3 one ≡ 2)
 unfolding caseHolds
 other-corners = (refl, refl)
 
--- ---- "On removal the run below continues the count from above", and "the k-th empty cell below it becomes k": one column of four cells, and
--- pins, a removal and an exchange in it
+-- ---- cases beside A to I, for what those do not tell apart
 
-abbrev pin : ℕ → ℕ → List ℕ
-pin id y = eight 3 0 id 0 1 1 0 y
+abbrev pin : ℕ → ℕ → ℕ → ℕ → ℕ → List ℕ
+pin id x y w h = eight 3 0 id 0 w h x y
 
--- pinned at rows 0 and 2: below each the count begins anew. Row 2 freed: its run goes on from row 1. Id 1 exchanged to 1×2 by rule 2: it stands
--- at the bottom, and rows 0 and 1 count from the top
-abbrev column : Case
-column = record {
+abbrev pinned : ℕ → ℕ → ℕ → ℕ → ℕ → List ℕ
+pinned id x y w h = eight 0 3 id 0 x y w h
+
+-- "On removal the run below continues the count from above": one column of four cells, pins at rows 0 and 2, and row 2 freed
+abbrev removed : Case
+removed = record {
   w = 1;
   h = 4;
   slots = 2;
-  block = pin 1 0 ++ pin 2 2 ++ eight 2 0 2 0 0 0 0 0;
-  answers = eight 0 3 1 0 0 0 1 1 ++ eight 0 3 2 0 0 2 1 1 ++ eight 0 2 2 0 0 2 1 1;
+  block = pin 1 0 0 1 1 ++ pin 2 0 2 1 1 ++ eight 2 0 2 0 0 0 0 0;
+  answers = pinned 1 0 0 1 1 ++ pinned 2 0 2 1 1 ++ eight 0 2 2 0 0 2 1 1;
   accepted = 3;
   weights = o 1 ∷ e 1 ∷ e 2 ∷ e 3 ∷ [];
   table = eight 1 0 0 0 1 1 0 0 ++ free;
+  used = 1;
   list = rect 0 1 1 3 ∷ [];
   corners = 1;
 }
 
+-- "the k-th empty cell below it becomes k"; "keeps its slot"; "a freed slot is used again": id 1 gives way to 1×2 at the bottom in slot 0, and id 5 goes into slot 1
 abbrev exchanged : Case
 exchanged = record {
   w = 1;
   h = 4;
-  slots = 2;
-  block = pin 1 0 ++ pin 2 2 ++ eight 2 0 2 0 0 0 0 0 ++ eight 4 2 1 0 1 2 0 0 ++ pin 5 0;
-  answers = eight 0 3 1 0 0 0 1 1 ++ eight 0 3 2 0 0 2 1 1 ++ eight 0 2 2 0 0 2 1 1 ++ eight 0 4 1 0 0 2 1 2 ++ eight 0 3 5 0 0 0 1 1;
+  slots = 3;
+  block = pin 1 0 0 1 1 ++ pin 2 0 2 1 1 ++ eight 2 0 2 0 0 0 0 0 ++ eight 4 2 1 0 1 2 0 0 ++ pin 5 0 0 1 1;
+  answers = pinned 1 0 0 1 1 ++ pinned 2 0 2 1 1 ++ eight 0 2 2 0 0 2 1 1 ++ eight 0 4 1 0 0 2 1 2 ++ pinned 5 0 0 1 1;
   accepted = 5;
   weights = o 1 ∷ e 1 ∷ o 1 ∷ o 1 ∷ [];
-  table = eight 1 0 0 2 1 2 0 0 ++ eight 5 0 0 0 1 1 0 0;
+  table = eight 1 0 0 2 1 2 0 0 ++ eight 5 0 0 0 1 1 0 0 ++ free;
+  used = 2;
   list = rect 0 1 1 1 ∷ [];
   corners = 1;
 }
 
--- WHAT REMOVALS AND EXCHANGES LEAVE
-pub removals-hold : all caseHolds (column ∷ exchanged ∷ []) ≡ true
+-- a wide module at x over 0; ids 1 and 257, which share a low byte; a pin on an occupied cell is 21
+abbrev wideAndIds : Case
+wideAndIds = record {
+  w = 4;
+  h = 2;
+  slots = 3;
+  block = pin 1 1 0 2 1 ++ eight 3 0 1 1 1 1 0 1 ++ pin 3 2 0 1 1 ++ eight 1 0 1 1 1 1 0 0;
+  answers = pinned 1 1 0 2 1 ++ eight 0 3 1 1 0 1 1 1 ++ eight 21 3 3 0 0 0 0 0 ++ eight 15 1 1 1 0 0 0 0;
+  accepted = 2;
+  weights = e 1 ∷ o 2 ∷ o 1 ∷ e 1 ∷ o 1 ∷ e 1 ∷ e 1 ∷ e 2 ∷ [];
+  table = eight 1 0 1 0 2 1 0 0 ++ eight 1 1 0 1 1 1 0 0 ++ free;
+  used = 2;
+  list = rect 0 0 1 1 ∷ rect 1 1 3 1 ∷ rect 3 0 1 2 ∷ [];
+  corners = 3;
+}
+
+-- the three rules part: 4×3 with four modules. Its list is (0,0,2,2), (3,1,1,1), (1,0,1,3), (1,2,2,1); a 1×1 goes, by rule 0, into the first, at (0,1); by
+-- rule 1 into the smallest, at (3,1); by rule 2 into the third, whose (H − y − h)·W + x is 1, at (1,2). It is removed each time
+abbrev place : ℕ → List ℕ
+place rule = eight 1 rule 9 0 1 1 0 0 ++ eight 2 0 9 0 0 0 0 0
+
+abbrev comeAndGone : ℕ → ℕ → List ℕ
+comeAndGone x y = eight 0 1 9 0 x y 1 1 ++ eight 0 2 9 0 x y 1 1
+
+abbrev rulesPart : Case
+rulesPart = record {
+  w = 4;
+  h = 3;
+  slots = 5;
+  block = pin 1 0 2 1 1 ++ pin 2 2 0 2 1 ++ pin 3 2 1 1 1 ++ pin 4 3 2 1 1 ++ place 0 ++ place 1 ++ place 2;
+  answers = pinned 1 0 2 1 1 ++ pinned 2 2 0 2 1 ++ pinned 3 2 1 1 1 ++ pinned 4 3 2 1 1 ++ comeAndGone 0 1 ++ comeAndGone 3 1 ++ comeAndGone 1 2;
+  accepted = 10;
+  weights = e 1 ∷ e 1 ∷ o 2 ∷ o 1 ∷ e 2 ∷ e 2 ∷ o 1 ∷ e 1 ∷ o 1 ∷ e 3 ∷ e 1 ∷ o 1 ∷ [];
+  table = eight 1 0 0 2 1 1 0 0 ++ eight 2 0 2 0 2 1 0 0 ++ eight 3 0 2 1 1 1 0 0 ++ eight 4 0 3 2 1 1 0 0 ++ free;
+  used = 4;
+  list = rect 0 0 2 2 ∷ rect 3 1 1 1 ∷ rect 1 0 1 3 ∷ rect 1 2 2 1 ∷ [];
+  corners = 5;
+}
+
+-- THESE HOLD TOO
+pub examples-hold : all caseHolds (removed ∷ exchanged ∷ wideAndIds ∷ rulesPart ∷ []) ≡ true
 unfolding caseHolds
-removals-hold = refl
+examples-hold = refl
+
+-- ---- a surface that contradicts itself is refused, and nothing is written: 2×1, a weight of 2 in the top row
+pub fallen-refused : (check 2 1 (e 1 ∷ e 2 ∷ []) free .code ≡ 6) × (list 2 1 (e 1 ∷ e 2 ∷ []) free (7 ∷ []) .room ≡ 7 ∷ [])
+unfolding caseHolds
+fallen-refused = (refl, refl)

@@ -1,5 +1,5 @@
 -- THE WORKED FIGURES, cases A to I: one table under one proved statement, of the definitions. Each case clears a surface, runs its requests as a
--- block, and lists; answers, accepted count, weights, table, list and corners are those that stand here.
+-- block, checks and lists; answers, accepted count, weights, table, used slots, list and corners are those that stand here.
 use mathlib.Core.Path.{_≡_, refl}
 use mathlib.Core.Bool.{Bool, true, false, cond, _&&_}
 use mathlib.Core.List.{List, [], _∷_, _++_}
@@ -17,7 +17,7 @@ use Rattle.rules.specs.Judging
 use Rattle.rules.specs.Requests
 use Rattle.rules.specs.Blocks
 use Rattle.rules.specs.Calls
-use Rattle.rules.specs.Calls.{clear, run, list}
+use Rattle.rules.specs.Calls.{clear, check, run, list}
 use Rattle.rules.specs.declared.Rect.{Rect}
 
 pub record Case : Type 0 where
@@ -32,6 +32,7 @@ pub record Case : Type 0 where
   -- what they leave
   pub weights : List ℤ
   pub table : List ℕ
+  pub used : ℕ
   -- and what is listed then
   pub list : List Rect
   pub corners : ℕ
@@ -45,14 +46,16 @@ sameItems f (a ∷ l) (b ∷ m) = sameItems f l m && f a b
 
 -- whoever unfolds `caseHolds` unfolds all the rules: the statements below are computed
 unfoldable pub caseHolds : Case → Bool
-unfolding Tests.every Tests.any Tests.total Tests.leastFrom Tests.tabFrom Tests.keep Tests.all Tests.chain Surface.covers Surface.freeSlot Surface.holds Surface.occupied Surface.holder Surface.upwards Surface.remaining Surface.weight Surface.fresh Surface.soundSlot Surface.slotsSound Surface.idsDiffer Surface.modulesApart Surface.weightsRight Surface.stands Surface.usedSlots Empties.onSurface Empties.cellsEmpty Empties.empty Empties.rects Empties.maximal Empties.entries Empties.entryRecords Empties.scanned Empties.corner Empties.corners Judging.first Requests.zeros Requests.placed Requests.slotOf Requests.someFree Requests.lowestFree Requests.ground Requests.position Requests.cost Requests.cheapest Requests.chosen Requests.rulePlace Requests.judging Requests.accepted Requests.stepOf Blocks.next Blocks.after Calls.clearLines Calls.clearCode Calls.clearedWeights Calls.clear Calls.checkLines Calls.checkCode Calls.check Calls.runLines Calls.runCode Calls.run Calls.listLines Calls.listCode Calls.list
+unfolding Tests.every Tests.any Tests.total Tests.leastFrom Tests.tabFrom Tests.keep Tests.all Tests.chain Surface.covers Surface.freeSlot Surface.holds Surface.occupied Surface.holder Surface.upwards Surface.remaining Surface.weight Surface.fresh Surface.soundSlot Surface.slotsSound Surface.idsDiffer Surface.modulesApart Surface.weightsRight Surface.stands Surface.usedSlots Empties.onSurface Empties.cellsEmpty Empties.empty Empties.rects Empties.maximal Empties.entries Empties.entryRecords Empties.scanned Empties.corner Empties.corners Judging.first Requests.zeros Requests.idPlaced Requests.slotOf Requests.someFree Requests.lowestFree Requests.ground Requests.position Requests.cost Requests.cheapest Requests.chosen Requests.rulePlace Requests.soundLines Requests.placeLines Requests.acceptedStep Requests.stepOf Blocks.next Blocks.after Calls.clearLines Calls.clearCode Calls.clearedWeights Calls.clear Calls.checkLines Calls.checkCode Calls.check Calls.runLines Calls.runCode Calls.run Calls.listLines Calls.listCode Calls.list
 caseHolds c =
     let blank = clear (c .w) (c .h) (replicate (c .w * c .h) (pos 9)) (replicate (8 * c .slots) 9) in
     let ran = run (c .w) (c .h) (blank .weights) (blank .table) (c .block) (replicate (length (c .block)) 9) in
+    let seen = check (c .w) (c .h) (ran .weights) (ran .table) in
     let found = list (c .w) (c .h) (ran .weights) (ran .table) (replicate (8 * length (c .list)) 9) in
     eqb (blank .code) 0
     && eqb (ran .code) 0 && eqb (ran .accepted) (c .accepted) && sameItems eqb (ran .answers) (c .answers)
     && sameItems eqZ (ran .weights) (c .weights) && sameItems eqb (ran .table) (c .table)
+    && eqb (seen .code) 0 && eqb (seen .used) (c .used)
     && eqb (found .code) 0 && eqb (found .entries) (length (c .list)) && eqb (found .corners) (c .corners)
     && sameItems eqb (found .room) (entryRecords (c .list))
 
@@ -107,6 +110,7 @@ caseA = record {
   accepted = 0;
   weights = e 1 ∷ e 1 ∷ e 1 ∷ e 1 ∷ e 2 ∷ e 2 ∷ e 2 ∷ e 2 ∷ e 3 ∷ e 3 ∷ e 3 ∷ e 3 ∷ [];
   table = free ++ free;
+  used = 0;
   list = rect 0 0 4 3 ∷ [];
   corners = 1;
 }
@@ -122,6 +126,7 @@ caseB = record {
   accepted = 1;
   weights = e 1 ∷ e 1 ∷ e 1 ∷ e 1 ∷ e 2 ∷ e 2 ∷ e 2 ∷ e 2 ∷ o 2 ∷ o 1 ∷ e 3 ∷ e 3 ∷ [];
   table = eight 1 0 0 2 2 1 0 0 ++ free;
+  used = 1;
   list = rect 0 0 4 2 ∷ rect 2 0 2 3 ∷ [];
   corners = 2;
 }
@@ -137,6 +142,7 @@ caseC = record {
   accepted = 2;
   weights = o 3 ∷ o 2 ∷ o 1 ∷ e 1 ∷ o 3 ∷ o 2 ∷ o 1 ∷ e 2 ∷ o 2 ∷ o 1 ∷ e 1 ∷ e 3 ∷ [];
   table = eight 1 0 0 2 2 1 0 0 ++ eight 2 0 0 0 3 2 0 0;
+  used = 2;
   list = rect 2 2 2 1 ∷ rect 3 0 1 3 ∷ [];
   corners = 2;
 }
@@ -152,6 +158,7 @@ caseD = record {
   accepted = 1;
   weights = weightsD;
   table = tableD;
+  used = 1;
   list = listD;
   corners = 3;
 }
@@ -167,6 +174,7 @@ caseE = record {
   accepted = 1;
   weights = weightsD;
   table = tableD;
+  used = 1;
   list = listD;
   corners = 3;
 }
@@ -182,6 +190,7 @@ caseF rule = record {
   accepted = 2;
   weights = o 1 ∷ e 1 ∷ e 1 ∷ e 1 ∷ o 1 ∷ e 2 ∷ e 2 ∷ e 1 ∷ e 3 ∷ [];
   table = eight 7 0 1 1 1 1 0 0 ++ eight 8 0 0 0 1 1 0 0;
+  used = 2;
   list = rect 1 0 2 1 ∷ rect 0 1 1 2 ∷ rect 0 2 3 1 ∷ rect 2 0 1 3 ∷ [];
   corners = 3;
 }
@@ -196,6 +205,7 @@ caseF2 = record {
   accepted = 2;
   weights = e 1 ∷ e 1 ∷ e 1 ∷ e 2 ∷ o 1 ∷ e 2 ∷ o 1 ∷ e 1 ∷ e 3 ∷ [];
   table = eight 7 0 1 1 1 1 0 0 ++ eight 8 0 0 2 1 1 0 0;
+  used = 2;
   list = rect 0 0 3 1 ∷ rect 0 0 1 2 ∷ rect 1 2 2 1 ∷ rect 2 0 1 3 ∷ [];
   corners = 4;
 }
@@ -211,21 +221,23 @@ caseG = record {
   accepted = 2;
   weights = e 1 ∷ e 1 ∷ e 1 ∷ o 2 ∷ o 1 ∷ e 2 ∷ o 2 ∷ o 1 ∷ e 3 ∷ [];
   table = eight 7 0 0 1 2 2 0 0 ++ free;
+  used = 1;
   list = rect 0 0 3 1 ∷ rect 2 0 1 3 ∷ [];
   corners = 2;
 }
 
--- H: D, exchange id 7 to 4×1: 20, nothing changed
+-- H: D, exchange id 7 to 4×1: 20 (by each rule), nothing changed
 abbrev caseH : Case
 caseH = record {
   w = 3;
   h = 3;
   slots = 2;
-  block = pinD ++ eight 4 0 7 0 4 1 0 0;
-  answers = answerD ++ eight 20 4 7 0 0 0 0 0;
+  block = pinD ++ eight 4 0 7 0 4 1 0 0 ++ eight 4 1 7 0 4 1 0 0 ++ eight 4 2 7 0 4 1 0 0;
+  answers = answerD ++ eight 20 4 7 0 0 0 0 0 ++ eight 20 4 7 0 0 0 0 0 ++ eight 20 4 7 0 0 0 0 0;
   accepted = 1;
   weights = weightsD;
   table = tableD;
+  used = 1;
   list = listD;
   corners = 3;
 }
@@ -241,6 +253,7 @@ caseI slots code table = record {
   accepted = 1;
   weights = o 1 ∷ [];
   table = table;
+  used = 1;
   list = [];
   corners = 0;
 }

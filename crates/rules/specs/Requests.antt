@@ -1,6 +1,6 @@
 -- REQUESTS: the fields of a request, what it comes to, its answer, and what it leaves in weights and table. q is a request's eight bytes, t the table, s the weights.
 use mathlib.Core.Bool.{Bool, true, false, not, cond, _&&_, _||_}
-use mathlib.Core.List.{List, [], _∷_}
+use mathlib.Core.List.{List, [], _∷_, _++_}
 use mathlib.Core.Option.{Option, none, some}
 use Prim.Native.Nat.{ℕ, zero, suc, _+_, _-_, _*_}
 use lib.Dec.{leb, ltb, eqb}
@@ -56,25 +56,37 @@ isPin q = eqb (operation q) 3
 abbrev pub isExchange : List ℕ → Bool
 isExchange q = eqb (operation q) 4
 
--- operations 1 and 4, 1 and 3, 2 and 4, 1, 3 and 4
+-- an operation that there is
+abbrev pub known : List ℕ → Bool
+known q = between 1 4 (operation q)
+
+-- operations 1 and 4
 abbrev pub byRule : List ℕ → Bool
 byRule q = isPlace q || isExchange q
 
-abbrev pub makesNew : List ℕ → Bool
-makesNew q = isPlace q || isPin q
+-- operation 3: at the place that it names
+abbrev pub atPlace : List ℕ → Bool
+atPlace q = isPin q
 
+-- operations 1 and 3
+abbrev pub makesNew : List ℕ → Bool
+makesNew q = isPlace q || atPlace q
+
+-- operations 2 and 4
 abbrev pub needsOld : List ℕ → Bool
 needsOld q = isRemove q || isExchange q
 
+-- operations 1, 3 and 4
 abbrev pub hasSize : List ℕ → Bool
-hasSize q = isPlace q || isPin q || isExchange q
+hasSize q = byRule q || atPlace q
 
 -- the bytes that must be zero: "remove: rule, w and h are zero"; "pin: .. rule is zero"; "Elsewhere bytes 6 and 7 are zero."
 unfoldable pub zeros : List ℕ → List ℕ
 zeros q =
     cond (isRemove q) (ruleOf q ∷ wide q ∷ high q ∷ byte6 q ∷ byte7 q ∷ [])
-    (cond (isPin q) (ruleOf q ∷ [])
-    (byte6 q ∷ byte7 q ∷ []))
+    (cond (atPlace q) (ruleOf q ∷ [])
+    (cond (byRule q) (byte6 q ∷ byte7 q ∷ [])
+    []))
 
 -- "3 pin: byte 6 is x, byte 7 is y"
 abbrev pub pinned : List ℕ → Rect
@@ -87,8 +99,8 @@ abbrev pub hasId : List ℕ → ℕ → ℕ → Bool
 hasId t id i = usedSlot t i && eqb (idOf t i) id
 
 -- a module with this id is placed, and its slot
-unfoldable pub placed : List ℕ → ℕ → Bool
-placed t id = any (slots t) (hasId t id)
+unfoldable pub idPlaced : List ℕ → ℕ → Bool
+idPlaced t id = any (slots t) (hasId t id)
 
 unfoldable pub slotOf : List ℕ → ℕ → ℕ
 slotOf t id = least (slots t) (hasId t id)
@@ -112,8 +124,8 @@ position occ W H w h = any H (λ y. any W (λ x. empty occ W H (rect x y w h)))
 
 -- "Among list entries with room for the module: rule 0 takes the first; rule 1 the least area of the entry less that of the module; rule 2 the
 -- least (H − y − h)·W + x of the entry. Ties go to the earlier entry."
-abbrev pub room : ℕ → ℕ → Rect → Bool
-room w h e = leb w (e .w) && leb h (e .h)
+abbrev pub fits : ℕ → ℕ → Rect → Bool
+fits w h e = leb w (e .w) && leb h (e .h)
 
 unfoldable pub cost : ℕ → ℕ → ℕ → ℕ → ℕ → Rect → ℕ
 cost W H w h zero e = 0
@@ -130,7 +142,7 @@ chosenOf f [] = none
 chosenOf f (e ∷ l) = some (cheapest f e l)
 
 unfoldable pub chosen : (ℕ → ℕ → Bool) → ℕ → ℕ → ℕ → ℕ → ℕ → Option Rect
-chosen occ W H rule w h = chosenOf (cost W H w h rule) (keep (room w h) (entries occ W H))
+chosen occ W H rule w h = chosenOf (cost W H w h rule) (keep (fits w h) (entries occ W H))
 
 -- "The module stands in the entry's lower left corner."
 abbrev pub lowerLeft : ℕ → ℕ → Rect → Rect
@@ -148,23 +160,32 @@ abbrev pub anyCellTaken : (ℕ → ℕ → Bool) → Option Rect → Bool
 anyCellTaken occ none = false
 anyCellTaken occ (some r) = not (cellsEmpty occ r)
 
--- ---- the codes, "given exactly when (lowest first)"
-unfoldable pub judging : ℕ → ℕ → List ℕ → List ℕ → List Line
-judging W H t q =
-    let occ = occupied (ground t q) in
-    11 when not (between 1 4 (operation q)) ∷
+-- ---- the codes, "Given exactly when (lowest first)"
+
+-- a request is sound when none of these applies
+unfoldable pub soundLines : List ℕ → List ℕ → List Line
+soundLines t q =
+    11 when not (known q) ∷
     12 when not (all (eqb 0) (zeros q)) ∷
     13 when (byRule q && ltb 2 (ruleOf q)) ∷
     14 when eqb (idAsked q) 0 ∷
-    15 when (makesNew q && placed t (idAsked q)) ∷
-    16 when (needsOld q && not (placed t (idAsked q))) ∷
+    15 when (makesNew q && idPlaced t (idAsked q)) ∷
+    16 when (needsOld q && not (idPlaced t (idAsked q))) ∷
     17 when (hasSize q && (eqb (wide q) 0 || eqb (high q) 0)) ∷
-    18 when (isPin q && (ltb W (byte6 q + wide q) || ltb H (byte7 q + high q))) ∷
+    []
+
+unfoldable pub placeLines : ℕ → ℕ → List ℕ → List ℕ → List Line
+placeLines W H t q =
+    let occ = occupied (ground t q) in
+    18 when (atPlace q && (ltb W (byte6 q + wide q) || ltb H (byte7 q + high q))) ∷
     19 when (makesNew q && not (someFree t)) ∷
     20 when (byRule q && not (position occ W H (wide q) (high q))) ∷
-    21 when (isPin q && not (cellsEmpty occ (pinned q))) ∷
+    21 when (atPlace q && not (cellsEmpty occ (pinned q))) ∷
     22 when (byRule q && anyCellTaken occ (rulePlace occ W H (ruleOf q) (wide q) (high q))) ∷
     []
+
+abbrev pub judging : ℕ → ℕ → List ℕ → List ℕ → List Line
+judging W H t q = soundLines t q ++ placeLines W H t q
 
 -- ---- what a request comes to
 
@@ -174,19 +195,20 @@ orNone none = rect 0 0 0 0
 orNone (some r) = r
 
 -- an accepted request: "Place and pin use the lowest free slot"; "Exchange .. keeps its slot"
-unfoldable pub accepted : ℕ → ℕ → List ℕ → List ℕ → Step
-accepted W H t q =
+unfoldable pub acceptedStep : ℕ → ℕ → List ℕ → List ℕ → Step
+acceptedStep W H t q =
     let old = slotOf t (idAsked q) in
     let byRulePlace = orNone (rulePlace (occupied (ground t q)) W H (ruleOf q) (wide q) (high q)) in
     cond (isPlace q) (Placed (lowestFree t) byRulePlace)
     (cond (isRemove q) (Removed old (rectOf t old))
     (cond (isPin q) (Placed (lowestFree t) (pinned q))
-    (Placed old byRulePlace)))
+    (cond (isExchange q) (Placed old byRulePlace)
+    (Refused 11))))
 
 unfoldable pub stepOf : ℕ → ℕ → List ℕ → List ℕ → Step
 stepOf W H t q =
     let code = first (judging W H t q) in
-    let done = accepted W H t q in
+    let done = acceptedStep W H t q in
     cond (eqb code 0) done (Refused code)
 
 -- ---- what each step means: its number, its values, what it leaves

@@ -77,11 +77,12 @@ upwards occ x zero = cond (occ x 0) 0 1
 upwards occ x (suc y) = cond (occ x (suc y)) 0 (suc (upwards occ x y))
 
 -- "An occupied cell in column c of a module (x, y, w, h) holds −(x + w − c), the width that remains to the right."
-unfoldable pub remaining : Rect → ℕ → ℤ
-remaining r c = negℤ (pos (r .x + r .w - c))
+-- (the number of a cell in column c of the module in slot i)
+unfoldable pub remaining : List ℕ → ℕ → ℕ → ℤ
+remaining t i c = negℤ (pos (rectOf t i .x + rectOf t i .w - c))
 
 unfoldable pub weight : List ℕ → ℕ → ℕ → ℤ
-weight t x y = cond (occupied t x y) (remaining (rectOf t (holder t x y)) x) (pos (upwards (occupied t) x y))
+weight t x y = cond (occupied t x y) (remaining t (holder t x y) x) (pos (upwards (occupied t) x y))
 
 -- "Weights: a lent list of signed 16-bit numbers, exactly W·H long; cell (x, y) is number y·W + x."
 abbrev pub cell : ℕ → List ℤ → ℕ → ℕ → ℤ

@@ -1,0 +1,1153 @@
+/* A seeded generator: request streams for the program, and small cases of the
+ * four calls with the brute force's outcome. The same seed gives the same
+ * output on every machine.
+ *
+ *   generate stream KIND SEED N     N request records, binary
+ *   generate cases SEED N           N call cases, one a line
+ *   generate coverage SEED N        how often those cases give each code
+ */
+#include "brute.h"
+
+#include <stdio.h>
+#include <stdlib.h>
+#include <string.h>
+
+/* ---- numbers ----------------------------------------------------------- */
+
+static uint64_t state;
+
+/* splitmix64 */
+static uint64_t next(void)
+{
+    uint64_t z = state += 0x9e3779b97f4a7c15u;
+    z = (z ^ (z >> 30)) * 0xbf58476d1ce4e5b9u;
+    z = (z ^ (z >> 27)) * 0x94d049bb133111ebu;
+    return z ^ (z >> 31);
+}
+
+static unsigned below(unsigned n) { return (unsigned)(next() % n); }
+static int one_in(unsigned n) { return below(n) == 0; }
+static unsigned from_to(unsigned a, unsigned b) { return a + below(b - a + 1); }
+static uint8_t any_byte(void) { return (uint8_t)below(256); }
+
+/* ======================= streams ========================================= */
+
+/* No expression draws twice where C leaves the order open: each draw has its
+ * own declarator or statement, so every compiler gives the same output. */
+
+static unsigned long wanted, given;
+static unsigned side_w, side_h;         /* of the last sound clear */
+
+static int open_stream(void) { return given < wanted; }
+
+static void put(unsigned op, unsigned rule, unsigned id, unsigned w, unsigned h,
+                unsigned b6, unsigned b7)
+{
+    unsigned r[8] = { op, rule, id & 255, id >> 8 & 255, w, h, b6, b7 };
+    if (!open_stream())
+        return;
+    for (unsigned i = 0; i < 8; i++)
+        putchar((int)(r[i] & 255));
+    given++;
+}
+
+static void put_clear(unsigned w, unsigned h)
+{
+    side_w = w;
+    side_h = h;
+    put(5, 0, 0, w, h, 0, 0);
+}
+
+static void put_place(unsigned id, unsigned w, unsigned h, unsigned rule)
+{ put(1, rule, id, w, h, 0, 0); }
+static void put_remove(unsigned id) { put(2, 0, id, 0, 0, 0, 0); }
+static void put_pin(unsigned id, unsigned w, unsigned h, unsigned x, unsigned y)
+{ put(3, 0, id, w, h, x, y); }
+static void put_exchange(unsigned id, unsigned w, unsigned h, unsigned rule)
+{ put(4, rule, id, w, h, 0, 0); }
+
+/* A clear with both sides in this range. */
+static void clear_between(unsigned least, unsigned most)
+{
+    unsigned w = from_to(least, most), h = from_to(least, most);
+    put_clear(w, h);
+}
+
+/* A clear that may be refused; the sides are remembered when it is not. */
+static void any_clear(unsigned most)
+{
+    unsigned w = below(most + 1), h = below(most + 1);
+    if (w >= 1 && w <= 64 && h >= 1 && h <= 64)
+        put_clear(w, h);
+    else
+        put(5, 0, 0, w, h, 0, 0);
+}
+
+/* A record of any eight bytes, the operation below this. */
+static void put_any(unsigned operations)
+{
+    unsigned op = below(operations), b[5];
+    for (unsigned i = 0; i < 5; i++)
+        b[i] = below(256);
+    unsigned id = below(65536);
+    put(op, b[0], id, b[1], b[2], b[3], b[4]);
+}
+
+/* A record of bytes that are small enough to mean something. */
+static void put_small_any(unsigned ids, unsigned limit_w, unsigned limit_h)
+{
+    unsigned op = below(7), rule = below(4), id = below(ids + 1);
+    unsigned w = below(limit_w + 2), h = below(limit_h + 2);
+    unsigned b6 = one_in(2) ? below(limit_w + 1) : 0;
+    unsigned b7 = one_in(2) ? below(limit_h + 1) : 0;
+    put(op == 5 ? 1 : op, rule, id, w, h, b6, b7);
+}
+
+/* A side up to this limit, small ones more often. */
+static unsigned side(unsigned limit)
+{
+    unsigned n = limit < 1 ? 1 : limit;
+    return one_in(3) ? from_to(1, n) : from_to(1, n / 3 + 1);
+}
+
+/* A pin that lies on the surface. */
+static void put_pin_on(unsigned id, unsigned w, unsigned h)
+{
+    w = w > side_w ? side_w : w;
+    h = h > side_h ? side_h : h;
+    unsigned x = below(side_w - w + 1), y = below(side_h - h + 1);
+    put_pin(id, w, h, x, y);
+}
+
+/* Mostly a clear comes first; now and then something before it. */
+static void before_the_clear(void)
+{
+    if (!one_in(6))
+        return;
+    put_place(3, 1, 1, 0);
+    put_any(8);
+    put(5, one_in(2) ? 1 : 0, 0, 4, 4, 0, 0);
+    put(5, 0, 0, one_in(2) ? 0 : 65, 3, 0, 0);
+}
+
+static void clear_of_many_sizes(void)
+{
+    static const unsigned edge[][2] = { { 1, 1 }, { 1, 64 }, { 64, 1 }, { 64, 64 },
+                                        { 63, 64 }, { 2, 2 } };
+    unsigned k = below(12);
+    if (k < 6)
+        put_clear(edge[k][0], edge[k][1]);
+    else if (k < 9)
+        clear_between(1, 8);
+    else if (k < 11)
+        clear_between(2, 24);
+    else
+        clear_between(1, 64);
+}
+
+/* Which ids were asked for and not taken away since. */
+static uint8_t asked[1024];
+
+static void forget_asked(void) { memset(asked, 0, sizeof asked); }
+
+/* One mostly sound request under ids 1..ids. */
+static void put_load(unsigned ids, unsigned limit_w, unsigned limit_h, unsigned removes)
+{
+    unsigned id = from_to(1, ids), rule = below(3);
+    unsigned w = side(limit_w), h = side(limit_h);
+    if (one_in(40)) {
+        put_small_any(ids, limit_w, limit_h);
+    } else if (!asked[id]) {
+        asked[id] = 1;
+        if (one_in(3))
+            put_pin_on(id, w, h);
+        else
+            put_place(id, w, h, rule);
+    } else if (below(100) < removes) {
+        asked[id] = 0;
+        put_remove(id);
+    } else if (one_in(2)) {
+        put_exchange(id, w, h, rule);
+    } else {
+        put_place(id, w, h, rule);
+    }
+}
+
+static void refused_clear(void)
+{
+    unsigned w = from_to(60, 70), h = from_to(65, 70), spare = below(2);
+    put(5, 0, 0, w, h, 0, spare);
+}
+
+static void stream_sound(void)
+{
+    before_the_clear();
+    while (open_stream()) {
+        clear_of_many_sizes();
+        forget_asked();
+        unsigned ids = one_in(2) ? 12 : 60;
+        for (unsigned n = from_to(5, 60); n > 0 && open_stream(); n--) {
+            put_load(ids, side_w, side_h, 40);
+            if (one_in(50))
+                refused_clear();
+        }
+    }
+}
+
+static void stream_random(void)
+{
+    if (!one_in(5))
+        clear_between(1, 64);
+    while (open_stream()) {
+        if (one_in(12))
+            any_clear(66);
+        else if (one_in(3))
+            put_any(256);
+        else if (one_in(2))
+            put_small_any(6, 66, 66);
+        else
+            put_load(8, side_w + 1, side_h + 1, 30);
+    }
+}
+
+static void stream_dense(void)
+{
+    before_the_clear();
+    while (open_stream()) {
+        clear_between(6, 32);
+        forget_asked();
+        unsigned limit = from_to(1, 5);
+        for (unsigned n = side_w * side_h; n > 0 && open_stream(); n--)
+            put_load(300, limit, limit, 15);
+    }
+}
+
+static void stream_sparse(void)
+{
+    before_the_clear();
+    while (open_stream()) {
+        clear_between(20, 64);
+        forget_asked();
+        for (unsigned n = from_to(20, 80); n > 0 && open_stream(); n--)
+            put_load(6, 8, 8, 60);
+    }
+}
+
+/* "a module exchanged for a larger one under its own id, refused, asked again,
+ * then removed, in any mixture with the rest" */
+static void exchange_step(unsigned ids, unsigned id, unsigned w, unsigned h)
+{
+    unsigned rule = below(3), again = below(3);
+    unsigned too_w = side_w + below(2), too_h = side_h + below(2);
+    put_exchange(id, w, h, rule);
+    if (one_in(2))
+        put_exchange(id, too_w, too_h, rule);
+    if (one_in(2))
+        put_exchange(id, w, h, again);
+    if (one_in(3))
+        put_load(ids, side_w / 2 + 1, side_h / 2 + 1, 30);
+}
+
+static void exchange_history(unsigned ids)
+{
+    unsigned id = from_to(1, ids), rule = below(3);
+    unsigned w = side(side_w), h = side(side_h);
+    if (one_in(2))
+        put_place(id, w, h, rule);
+    else
+        put_pin_on(id, w, h);
+    for (unsigned n = from_to(1, 6); n > 0; n--) {
+        w += below(3);
+        h += below(3);
+        exchange_step(ids, id, w, h);
+    }
+    if (one_in(3))
+        put_exchange(id, 1, 2, rule);
+    if (!one_in(3))
+        put_remove(id);
+    if (one_in(4))
+        put_exchange(id, 1, 1, rule);
+}
+
+static void stream_exchange(void)
+{
+    before_the_clear();
+    while (open_stream()) {
+        clear_between(1, 16);
+        forget_asked();
+        for (unsigned n = from_to(3, 12); n > 0 && open_stream(); n--)
+            exchange_history(4);
+    }
+}
+
+/* "full tables: more than 256 modules" */
+static void at_full_table(void)
+{
+    unsigned id = 1000 + below(300), other = 1000 + below(300);
+    unsigned late = 2000 + below(50), rule = below(3), w = from_to(1, 3);
+    unsigned x = below(side_w), y = below(side_h);
+    switch (below(8)) {
+    case 0: put_place(late, 1, 1, rule); break;
+    case 1: put_pin(late, 1, 1, x, y); break;
+    case 2: put_pin(late, 1, 1, side_w, y); break;
+    case 3: put_exchange(id, w, 1, rule); break;
+    case 4: put_remove(id); put_place(id, 1, 1, rule); break;
+    case 5: put_remove(id); put_remove(other); put_pin(late, 1, 1, x, y); break;
+    case 6: put_place(late, 200, 1, rule); break;
+    default: put_place(id, 1, 1, rule); break;
+    }
+}
+
+static void fill_table(void)
+{
+    unsigned step = from_to(1, 3);
+    for (unsigned i = 0; i < 265; i++) {
+        unsigned at = i * step % (side_w * side_h), rule = below(3);
+        if (one_in(20))
+            put_place(1000 + i, 1, 1, rule);
+        else
+            put_pin(1000 + i, 1, 1, at % side_w, at / side_w);
+    }
+}
+
+static void stream_full(void)
+{
+    before_the_clear();
+    while (open_stream()) {
+        clear_between(20, 64);
+        fill_table();
+        for (unsigned n = from_to(20, 60); n > 0; n--)
+            at_full_table();
+    }
+}
+
+/* Any bytes; the length need not be a multiple of 8. */
+static void stream_garbage(void)
+{
+    if (!one_in(4))
+        clear_between(1, 20);
+    while (open_stream())
+        if (one_in(20))
+            any_clear(255);
+        else
+            put_any(256);
+    for (unsigned n = below(8); n > 0; n--)
+        putchar(any_byte());
+}
+
+/* Sound, then cut in the middle of a record. */
+static void stream_cut(void)
+{
+    if (wanted > 0)
+        wanted--;
+    stream_sound();
+    for (unsigned n = from_to(1, 7); n > 0; n--)
+        putchar((int)n);
+}
+
+/* Thin modules side by side, upright or lying; the next id. */
+static unsigned thin_row(unsigned upright)
+{
+    unsigned across = upright ? side_w : side_h, along = upright ? side_h : side_w;
+    unsigned id = 1;
+    for (unsigned i = 0; i < across; i++) {
+        unsigned len = from_to(1, along), at = one_in(2) ? 0 : along - len;
+        if (one_in(8))
+            continue;
+        if (upright)
+            put_pin(id++, 1, len, i, at);
+        else
+            put_pin(id++, len, 1, at, i);
+    }
+    return id;
+}
+
+static void stream_thin(void)
+{
+    before_the_clear();
+    while (open_stream()) {
+        clear_between(4, 40);
+        unsigned end = thin_row(below(2));
+        for (unsigned n = from_to(5, 30); n > 0; n--) {
+            unsigned id = from_to(1, end), late = end + below(4), rule = below(3);
+            unsigned w = one_in(2) ? 1 : from_to(1, side_w);
+            unsigned h = w == 1 ? from_to(1, side_h) : 1;
+            if (one_in(3))
+                put_remove(id);
+            else if (one_in(2))
+                put_exchange(id, w, h, rule);
+            else
+                put_place(late, w, h, rule);
+        }
+    }
+}
+
+/* A checkerboard by pins; the next id. */
+static unsigned checkerboard(unsigned odd)
+{
+    unsigned id = 1;
+    for (unsigned y = 0; y < side_h; y++)
+        for (unsigned x = 0; x < side_w; x++)
+            if ((x + y + odd) % 2 == 0)
+                put_pin(id++, 1, 1, x, y);
+    return id;
+}
+
+/* 256 slots hold the checkerboard of up to 512 cells. */
+static void checker_clear(void)
+{
+    if (one_in(12))
+        put_clear(64, 8);
+    else if (one_in(12))
+        put_clear(8, 64);
+    else
+        clear_between(1, 22);
+}
+
+static void stream_checker(void)
+{
+    before_the_clear();
+    while (open_stream()) {
+        checker_clear();
+        unsigned end = checkerboard(below(2));
+        put_place(600, 2, 1, 0);
+        put_place(600, 1, 2, 1);
+        for (unsigned n = from_to(3, 25); n > 0; n--) {
+            unsigned id = from_to(1, end), late = 600 + below(20), rule = below(3);
+            unsigned w = from_to(1, 3), h = from_to(1, 3);
+            if (one_in(3))
+                put_remove(id);
+            else if (one_in(2))
+                put_place(late, w, h, rule);
+            else
+                put_exchange(id, w, h, rule);
+        }
+    }
+}
+
+static const struct { const char *name; void (*make)(void); } kinds[] = {
+    { "random", stream_random }, { "sound", stream_sound },
+    { "dense", stream_dense }, { "sparse", stream_sparse },
+    { "exchange", stream_exchange }, { "full", stream_full },
+    { "garbage", stream_garbage }, { "cut", stream_cut },
+    { "thin", stream_thin }, { "checker", stream_checker }
+};
+
+static int make_stream(const char *kind)
+{
+    side_w = side_h = 1;
+    for (unsigned i = 0; i < sizeof kinds / sizeof kinds[0]; i++)
+        if (strcmp(kinds[i].name, kind) == 0) {
+            kinds[i].make();
+            return 0;
+        }
+    fprintf(stderr, "generate: no such kind\n");
+    return 2;
+}
+
+/* ======================= cases =========================================== */
+
+enum { CLEAR, CHECK, RUN, LIST, CALLS };
+enum { AREA = 12, CAP = 512 };
+
+struct lent { uint64_t len; uint8_t byte[CAP]; };
+
+struct call_case {
+    unsigned call;
+    uint64_t w, h;
+    struct lent weights, table, requests, answers, room;
+};
+
+static void fill_any(struct lent *l, uint64_t len)
+{
+    l->len = len;
+    for (uint64_t i = 0; i < len; i++)
+        l->byte[i] = any_byte();
+}
+
+/* ---- standing surfaces --------------------------------------------------- */
+
+/* "mostly 1..4 (area at most 12)" */
+static void pick_size(struct call_case *c)
+{
+    do {
+        unsigned limit = one_in(8) ? 12 : 4;
+        c->w = from_to(1, limit);
+        c->h = from_to(1, limit);
+    } while (c->w * c->h > AREA);
+}
+
+/* 0..4, mostly 1 and 2. */
+static uint8_t draw_side(void)
+{
+    static const uint8_t sides[12] = { 0, 1, 1, 1, 1, 1, 2, 2, 2, 3, 3, 4 };
+    return one_in(50) ? any_byte() : sides[below(12)];
+}
+
+/* Zero where it must be, now and then not. */
+static uint8_t draw_zero(void)
+{
+    return one_in(20) ? (uint8_t)below(4) : 0;
+}
+
+/* A coordinate, now and then far off. */
+static uint8_t draw_coordinate(void)
+{
+    return one_in(20) ? any_byte() : (uint8_t)below(4);
+}
+
+/* A request with this operation, its bytes mostly as they must be. */
+static void draw_request(uint8_t *q, unsigned op)
+{
+    q[0] = (uint8_t)op;
+    q[1] = draw_zero();
+    if (op == 1 || op == 4)
+        q[1] = (uint8_t)(one_in(12) ? 3 : below(3));
+    q[2] = (uint8_t)(one_in(12) ? 0 : from_to(1, 5));
+    q[3] = (uint8_t)(one_in(12) ? from_to(1, 2) : 0);
+    q[4] = op == 2 ? draw_zero() : draw_side();
+    q[5] = op == 2 ? draw_zero() : draw_side();
+    q[6] = op == 3 ? draw_coordinate() : draw_zero();
+    q[7] = op == 3 ? draw_coordinate() : draw_zero();
+}
+
+static void draw_any_request(uint8_t *q)
+{
+    draw_request(q, one_in(10) ? below(7) : from_to(1, 4));
+}
+
+/* Mostly one that would add a module. */
+static void draw_adding_request(uint8_t *q)
+{
+    if (one_in(4))
+        draw_any_request(q);
+    else
+        draw_request(q, one_in(2) ? 1 : 3);
+}
+
+static uint64_t run_on(struct call_case *c, const uint8_t *q, uint64_t len, uint8_t *a)
+{
+    return brute_run(c->w, c->h, c->weights.byte, c->weights.len,
+                     c->table.byte, c->table.len, q, len, a, len);
+}
+
+/* Reached through clear and run from random requests. */
+static void standing(struct call_case *c)
+{
+    uint8_t q[8], a[8];
+    pick_size(c);
+    c->weights.len = 2 * c->w * c->h;
+    c->table.len = 8 * from_to(1, 4);
+    brute_clear(c->w, c->h, c->weights.byte, c->weights.len, c->table.byte, c->table.len);
+    for (unsigned n = below(10); n > 0; n--) {
+        draw_adding_request(q);
+        run_on(c, q, 8, a);
+    }
+}
+
+static void draw_block(struct call_case *c, unsigned n)
+{
+    c->requests.len = 8 * n;
+    for (unsigned i = 0; i < n; i++)
+        draw_any_request(c->requests.byte + 8 * i);
+    fill_any(&c->answers, 8 * n);
+}
+
+static uint64_t check_of(const struct call_case *c)
+{
+    return brute_check(c->w, c->h, c->weights.byte, c->weights.len,
+                       c->table.byte, c->table.len);
+}
+
+/* How many entries the list has: listed into room enough. */
+static unsigned entries_of(const struct call_case *c)
+{
+    uint8_t room[8 * 64];
+    return (unsigned)(brute_list(c->w, c->h, c->weights.byte, c->weights.len,
+                                 c->table.byte, c->table.len, room, sizeof room)
+                      >> 16 & 0xffff);
+}
+
+/* ---- aims of a run: each operation with each code it can have ------------ */
+
+static const struct { uint8_t op, code; } aims[] = {
+    { 1, 0 }, { 3, 0 }, { 4, 0 }, { 2, 0 }, { 1, 20 }, { 3, 21 }, { 4, 20 }, { 1, 19 },
+    { 3, 19 }, { 3, 18 }, { 1, 17 }, { 3, 17 }, { 4, 17 }, { 2, 16 }, { 4, 16 },
+    { 1, 15 }, { 3, 15 }, { 1, 14 }, { 2, 14 }, { 3, 14 }, { 4, 14 }, { 1, 13 },
+    { 4, 13 }, { 1, 12 }, { 2, 12 }, { 3, 12 }, { 4, 12 }, { 0, 11 }, { 5, 11 }, { 6, 11 }
+};
+enum { AIMS = sizeof aims / sizeof aims[0] };
+
+/* A request of this operation that has this code on this surface. */
+static int aim_request(const struct call_case *c, unsigned op, unsigned code, uint8_t *q)
+{
+    uint8_t a[8];
+    for (unsigned tries = 0; tries < 60; tries++) {
+        struct call_case copy = *c;
+        draw_request(q, op);
+        run_on(&copy, q, 8, a);
+        if (a[0] == code)
+            return 1;
+    }
+    return 0;
+}
+
+/* A block of 1..5 requests, one of them aimed, on the surface before it; of the
+ * others every second one is drawn so that it is accepted, where it can be. */
+static int aim_block(struct call_case *c, unsigned aim)
+{
+    unsigned n = from_to(1, 5), mark = below(n);
+    uint8_t a[8];
+    struct call_case now = *c;
+    draw_block(c, n);
+    for (unsigned i = 0; i < n; i++) {
+        uint8_t *q = c->requests.byte + 8 * i;
+        if (i == mark && !aim_request(&now, aims[aim].op, aims[aim].code, q))
+            return 0;
+        if (i != mark && one_in(2))
+            aim_request(&now, from_to(1, 4), 0, q);
+        run_on(&now, q, 8, a);
+    }
+    return 1;
+}
+
+static void aimed_run(struct call_case *c, unsigned aim)
+{
+    for (unsigned tries = 0; tries < 500; tries++) {
+        standing(c);
+        if (aim_block(c, aim))
+            return;
+    }
+}
+
+/* ---- faults -------------------------------------------------------------- */
+
+static void fault_size(struct call_case *c)
+{
+    static const uint64_t bad[] = {
+        0, 65, UINT64_MAX, (uint64_t)1 << 63, (uint64_t)1 << 32, 257, 65537, 128, 66, 255, 256
+    };
+    uint64_t b = bad[below(sizeof bad / sizeof bad[0])];
+    if (one_in(2))
+        c->w = b;
+    else
+        c->h = b;
+    if (one_in(4)) {                    /* products that wrap to 0 or 1 */
+        c->w = one_in(2) ? UINT64_MAX : (uint64_t)1 << 32;
+        c->h = c->w;
+    }
+    if (one_in(3))
+        c->weights.len = 2 * below(3);
+}
+
+static void fault_weights_length(struct call_case *c)
+{
+    unsigned k = below(4);
+    if (k == 0) {
+        c->weights.len = 0;
+    } else if (k == 1) {
+        c->weights.len -= 2;
+    } else {
+        c->weights.byte[c->weights.len] = k == 2 ? 1 : any_byte();
+        c->weights.byte[c->weights.len + 1] = k == 2 ? 0 : any_byte();
+        c->weights.len += 2;
+    }
+}
+
+static void fault_table_length(struct call_case *c)
+{
+    unsigned k = below(4);
+    uint64_t was = c->table.len;
+    if (k == 0)
+        c->table.len = 0;
+    else if (k == 1)
+        c->table.len -= from_to(1, 7);
+    else
+        c->table.len += from_to(1, 7);
+    for (uint64_t i = was; i < c->table.len; i++)
+        c->table.byte[i] = k == 2 ? 0 : any_byte();
+}
+
+static void fault_block_length(struct call_case *c)
+{
+    draw_block(c, 5);
+    unsigned whole = below(5), part = from_to(1, 7);
+    c->requests.len -= 8 * whole + part;
+    fill_any(&c->answers, c->requests.len);
+}
+
+static void fault_answers_length(struct call_case *c)
+{
+    draw_block(c, below(6));
+    uint64_t n = c->requests.len;
+    switch (below(4)) {
+    case 0: fill_any(&c->answers, n + 1); break;
+    case 1: fill_any(&c->answers, n == 0 ? 8 : n - 1); break;
+    case 2: fill_any(&c->answers, n + 8); break;
+    default: fill_any(&c->answers, n == 0 ? 5 : n - 8); break;
+    }
+}
+
+/* ---- surfaces that do not stand ------------------------------------------- */
+
+static int int_weight(const struct call_case *c, unsigned i)
+{
+    return (int16_t)(uint16_t)(c->weights.byte[2 * i] + 256u * c->weights.byte[2 * i + 1]);
+}
+
+static void put_weight(struct call_case *c, unsigned i, int v)
+{
+    c->weights.byte[2 * i] = (uint8_t)((unsigned)v & 255);
+    c->weights.byte[2 * i + 1] = (uint8_t)((unsigned)v >> 8 & 255);
+}
+
+/* A cell that is empty, or occupied; -1 when there is none. */
+static int some_cell(const struct call_case *c, int empty)
+{
+    unsigned n = (unsigned)(c->w * c->h), start = below(n);
+    for (unsigned k = 0; k < n; k++)
+        if ((int_weight(c, (start + k) % n) > 0) == empty)
+            return (int)((start + k) % n);
+    return -1;
+}
+
+/* A slot that is used, or free; NULL when there is none. */
+static uint8_t *some_slot(struct call_case *c, int used)
+{
+    unsigned n = (unsigned)(c->table.len / 8), start = below(n);
+    for (unsigned k = 0; k < n; k++) {
+        uint8_t *s = c->table.byte + 8 * ((start + k) % n);
+        int is_used = s[0] != 0 || s[1] != 0;
+        if (is_used == used)
+            return s;
+    }
+    return NULL;
+}
+
+static int slot_covers(const uint8_t *s, unsigned x, unsigned y)
+{
+    return s[2] <= x && x < (unsigned)s[2] + s[4] && s[3] <= y && y < (unsigned)s[3] + s[5];
+}
+
+/* The first, or the last, slot that covers the cell. */
+static const uint8_t *cover(const struct call_case *c, unsigned x, unsigned y, int last)
+{
+    const uint8_t *found = NULL;
+    for (uint64_t i = 0; i < c->table.len; i += 8)
+        if (slot_covers(c->table.byte + i, x, y) && (last || found == NULL))
+            found = c->table.byte + i;
+    return found;
+}
+
+/* Weights that agree with the table as far as may be, modules cut off at the
+ * edges, the first or the last one winning a shared cell. */
+static void paint(struct call_case *c, int last)
+{
+    for (unsigned x = 0; x < c->w; x++) {
+        int run = 0;
+        for (unsigned y = 0; y < c->h; y++) {
+            const uint8_t *s = cover(c, x, y, last);
+            run = s == NULL ? run + 1 : 0;
+            put_weight(c, y * (unsigned)c->w + x,
+                       s == NULL ? run : -(int)(s[2] + s[4] - x));
+        }
+    }
+}
+
+static void write_slot(uint8_t *s, unsigned id, unsigned x, unsigned y, unsigned w, unsigned h)
+{
+    uint8_t r[8] = { (uint8_t)(id & 255), (uint8_t)(id >> 8), (uint8_t)x, (uint8_t)y,
+                     (uint8_t)w, (uint8_t)h, 0, 0 };
+    memcpy(s, r, 8);
+}
+
+static void damage_weight(struct call_case *c, int empty)
+{
+    static const int off[] = { 1, -1, 256, -256, 32767, 2 };
+    int i = some_cell(c, empty);
+    if (i < 0)
+        return;
+    int v = int_weight(c, (unsigned)i);
+    switch (below(4)) {
+    case 0: put_weight(c, (unsigned)i, 0); break;
+    case 1: put_weight(c, (unsigned)i, -v); break;
+    default: put_weight(c, (unsigned)i, v + off[below(6)]); break;
+    }
+}
+
+/* Below a module the count goes on as if the module were not there. */
+static void count_through(struct call_case *c)
+{
+    for (unsigned i = 0; i < c->w * c->h; i++)
+        if (int_weight(c, i) > 0)
+            put_weight(c, i, (int)(i / (unsigned)c->w) + 1);
+}
+
+enum { SURFACE_FAULTS = 20 };
+
+/* The place of a fault: drawn beforehand, in this order. */
+struct draws {
+    unsigned x, y, w, h;        /* a rectangle on the surface */
+    unsigned byte;              /* 1..255 */
+    unsigned pick;              /* 0..5 */
+    int cell;                   /* an empty cell, or -1 */
+};
+
+static struct draws draw_fault(const struct call_case *c)
+{
+    struct draws d;
+    d.x = below((unsigned)c->w);
+    d.y = below((unsigned)c->h);
+    d.w = from_to(1, (unsigned)c->w - d.x);
+    d.h = from_to(1, (unsigned)c->h - d.y);
+    d.byte = from_to(1, 255);
+    d.pick = below(6);
+    d.cell = some_cell(c, 1);
+    return d;
+}
+
+/* A used slot damaged. */
+static void used_slot_fault(uint8_t *used, unsigned kind, const struct draws *d)
+{
+    if (kind == 2)                              /* id 0, other bytes set */
+        used[0] = used[1] = 0;
+    if (kind == 4)                              /* w or h 0 */
+        used[4 + d->pick % 2] = 0;
+    if (kind == 11)                             /* a spare byte set */
+        used[6 + d->pick % 2] = (uint8_t)d->byte;
+    if (kind == 15)                             /* gone, the weights stay */
+        memset(used, 0, 8);
+}
+
+/* A free slot filled, the weights staying or agreeing as far as may be. */
+static void free_slot_fault(struct call_case *c, uint8_t *f, unsigned kind,
+                            const struct draws *d)
+{
+    unsigned W = (unsigned)c->w, H = (unsigned)c->h;
+    switch (kind) {
+    case 3: f[2 + d->pick] = (uint8_t)d->byte; break;   /* id 0, a byte set */
+    case 5: write_slot(f, 9, d->x, d->y, 0, d->h); break;
+    case 6: write_slot(f, 9, d->x, d->y, d->w, 0); break;
+    case 7: write_slot(f, 9, d->x, d->y, W - d->x + 1, 1); paint(c, 1); break;
+    case 8: write_slot(f, 9, d->x, d->y, 1, H - d->y + 1); paint(c, 1); break;
+    case 9: write_slot(f, 9, 255, d->y, 2, 1); break;   /* the byte sum is 1 */
+    case 10: write_slot(f, 9, d->x, 255, 1, 2); break;
+    case 16: write_slot(f, 9, d->x, d->y, d->w, d->h); break;
+    case 18: write_slot(f, 9, W, d->y, 1, 1); break;    /* wholly off by one */
+    case 19: write_slot(f, 9, d->x, H, 1, 1); break;
+    default: break;
+    }
+}
+
+/* Two used slots that contradict each other: equal ids on different cells, or
+ * different ids with the used one's top left cell shared. */
+static void pair_fault(struct call_case *c, uint8_t *f, const uint8_t *used,
+                       unsigned kind, const struct draws *d)
+{
+    unsigned W = (unsigned)c->w, H = (unsigned)c->h;
+    if (kind == 12 && d->cell >= 0) {
+        write_slot(f, used[0] + 256u * used[1], (unsigned)d->cell % W,
+                   (unsigned)d->cell / W, 1, 1);
+        paint(c, 1);
+    }
+    if (kind == 13 || kind == 14) {
+        unsigned w = from_to(1, W - used[2]), h = from_to(1, H - used[3]);
+        write_slot(f, 9, used[2], used[3], w, h);
+        paint(c, kind == 13);
+    }
+}
+
+/* One fault of the surface; some need a used or a free slot or an empty cell,
+ * and change nothing where there is none. */
+static void surface_fault(struct call_case *c, unsigned kind)
+{
+    uint8_t *used = some_slot(c, 1);
+    uint8_t *f = some_slot(c, 0);
+    struct draws d = draw_fault(c);
+    if (kind == 0 || kind == 1)
+        damage_weight(c, kind == 0);
+    if (kind == 17)
+        count_through(c);
+    if (f != NULL)
+        free_slot_fault(c, f, kind, &d);
+    if (f != NULL && used != NULL)
+        pair_fault(c, f, used, kind, &d);
+    if (used != NULL)
+        used_slot_fault(used, kind, &d);
+}
+
+/* Surfaces are drawn until this fault makes one not stand. */
+static void fault_surface(struct call_case *c, unsigned kind)
+{
+    for (unsigned tries = 0; tries < 1000; tries++) {
+        struct call_case copy;
+        standing(c);
+        copy = *c;
+        surface_fault(c, kind);
+        if (check_of(c) == 6)
+            return;
+        *c = copy;
+    }
+}
+
+/* ---- room ------------------------------------------------------------------ */
+
+static void draw_room(struct call_case *c)
+{
+    unsigned n = 8 * entries_of(c);
+    fill_any(&c->room, n + (one_in(3) ? 0 : from_to(1, 21)));
+    for (uint64_t i = 0; i < c->room.len; i++)
+        if (c->room.byte[i] == 0)
+            c->room.byte[i] = 170;
+}
+
+static void fault_room(struct call_case *c)
+{
+    unsigned n;
+    do
+        standing(c);
+    while ((n = 8 * entries_of(c)) == 0);
+    fill_any(&c->room, one_in(3) ? n - 1 : one_in(3) ? 0 : one_in(2) ? n - 8 : below(n));
+}
+
+/* ---- one case ---------------------------------------------------------------- */
+
+/* The codes of each call, in the turn they are aimed at. */
+static const uint8_t call_codes[CALLS][6] = {
+    { 1, 2, 3, 1, 2, 3 }, { 6, 1, 6, 2, 6, 3 }, { 6, 1, 2, 3, 4, 5 }, { 6, 7, 1, 2, 3, 7 }
+};
+
+/* How many cases of each call there were, and in each of the two sorts. */
+static unsigned of_call[CALLS], sound_of[CALLS], faults_of[CALLS], next_fault;
+
+static void apply_fault(struct call_case *c, unsigned code)
+{
+    switch (code) {
+    case 1: fault_size(c); break;
+    case 2: fault_weights_length(c); break;
+    case 3: fault_table_length(c); break;
+    case 4: fault_block_length(c); break;
+    case 5: fault_answers_length(c); break;
+    case 6: fault_surface(c, next_fault++ % SURFACE_FAULTS); break;
+    default: fault_room(c); break;
+    }
+}
+
+/* Code 7's room and 6's surface are drawn first, so that a lower fault may come
+ * on top of them: the lowest one that applies is given. */
+static void faulted_case(struct call_case *c, unsigned code)
+{
+    standing(c);
+    if (c->call == RUN)
+        draw_block(c, below(6));
+    if (c->call != CLEAR && code < 6 && one_in(4))
+        apply_fault(c, 6);
+    if (code == 6)
+        apply_fault(c, 6);
+    if (c->call == LIST)
+        draw_room(c);
+    if (code == 6)
+        return;
+    if (c->call == RUN && code < 5 && one_in(4))
+        apply_fault(c, 5);
+    if (code < 3 && one_in(4))
+        apply_fault(c, 3);
+    if (code < 2 && one_in(4))
+        apply_fault(c, 2);
+    apply_fault(c, code);
+}
+
+static void sound_case(struct call_case *c)
+{
+    unsigned n = sound_of[c->call]++;
+    if (c->call == RUN && n % 12 == 7) {
+        standing(c);
+        draw_block(c, 0);
+    } else if (c->call == RUN) {
+        aimed_run(c, (n - (n + 4) / 12) % AIMS);
+    } else {
+        standing(c);
+    }
+    if (c->call == LIST)
+        draw_room(c);
+}
+
+/* "Clear never looks at what the buffers held." */
+static void draw_case(struct call_case *c, unsigned long number)
+{
+    static const uint8_t turn[10] = { RUN, LIST, CHECK, RUN, CLEAR, LIST, RUN, CHECK, LIST, RUN };
+    memset(c, 0, sizeof *c);
+    c->call = turn[number % 10];
+    unsigned n = of_call[c->call]++;
+    if (n % 3 == 1)
+        faulted_case(c, call_codes[c->call][faults_of[c->call]++ % 6]);
+    else
+        sound_case(c);
+    if (c->call == CLEAR && one_in(2)) {
+        fill_any(&c->weights, c->weights.len);
+        fill_any(&c->table, c->table.len);
+    }
+}
+
+static uint64_t make_call(struct call_case *c)
+{
+    struct lent *ws = &c->weights, *t = &c->table;
+    switch (c->call) {
+    case CLEAR: return brute_clear(c->w, c->h, ws->byte, ws->len, t->byte, t->len);
+    case CHECK: return brute_check(c->w, c->h, ws->byte, ws->len, t->byte, t->len);
+    case LIST: return brute_list(c->w, c->h, ws->byte, ws->len, t->byte, t->len,
+                                 c->room.byte, c->room.len);
+    default: return brute_run(c->w, c->h, ws->byte, ws->len, t->byte, t->len,
+                              c->requests.byte, c->requests.len,
+                              c->answers.byte, c->answers.len);
+    }
+}
+
+/* ---- a case as a line --------------------------------------------------------- */
+
+static void print_bytes(const struct lent *l)
+{
+    printf(" | ");
+    for (uint64_t i = 0; i < l->len; i++)
+        printf("%s%u", i == 0 ? "" : " ", l->byte[i]);
+}
+
+static void print_weights(const struct call_case *c)
+{
+    printf(" | ");
+    for (unsigned i = 0; i < c->weights.len / 2; i++)
+        printf("%s%d", i == 0 ? "" : " ", int_weight(c, i));
+}
+
+static const char *const call_names[CALLS] = { "clear", "check", "run", "list" };
+
+static void print_before(const struct call_case *c)
+{
+    printf("%s | %llu %llu", call_names[c->call], (unsigned long long)c->w,
+           (unsigned long long)c->h);
+    print_weights(c);
+    print_bytes(&c->table);
+    if (c->call == RUN) {
+        print_bytes(&c->requests);
+        print_bytes(&c->answers);
+    }
+    if (c->call == LIST)
+        print_bytes(&c->room);
+}
+
+static void print_after(const struct call_case *c, uint64_t r)
+{
+    printf(" | %u %u %u", (unsigned)(r & 0xffff), (unsigned)(r >> 16 & 0xffff),
+           (unsigned)(r >> 32));
+    if (c->call == CLEAR || c->call == RUN) {
+        print_weights(c);
+        print_bytes(&c->table);
+    }
+    if (c->call == RUN)
+        print_bytes(&c->answers);
+    if (c->call == LIST)
+        print_bytes(&c->room);
+    printf("\n");
+}
+
+static int make_cases(unsigned long n)
+{
+    static struct call_case c;
+    next_fault = below(SURFACE_FAULTS);
+    for (unsigned long i = 0; i < n; i++) {
+        draw_case(&c, i);
+        print_before(&c);
+        print_after(&c, make_call(&c));
+    }
+    return 0;
+}
+
+/* ---- coverage -------------------------------------------------------------------- */
+
+static unsigned long call_seen[CALLS][8], request_seen[7][23], blocks_of[6];
+
+static void count_case(const struct call_case *c, uint64_t r)
+{
+    call_seen[c->call][r & 7]++;
+    if (c->call != RUN || r % 65536 != 0)
+        return;
+    blocks_of[c->requests.len / 8]++;
+    for (uint64_t i = 0; i < c->answers.len; i += 8)
+        request_seen[c->answers.byte[i + 1]][c->answers.byte[i]]++;
+}
+
+static unsigned missing(void)
+{
+    static const uint8_t may[CALLS][7] = {
+        { 0, 1, 2, 3, 0, 0, 0 }, { 0, 1, 2, 3, 6, 0, 0 },
+        { 0, 1, 2, 3, 4, 5, 6 }, { 0, 1, 2, 3, 6, 7, 0 } };
+    unsigned n = 0;
+    for (unsigned k = 0; k < CALLS; k++)
+        for (unsigned i = 0; i < 7; i++)
+            n += call_seen[k][may[k][i]] == 0;
+    for (unsigned i = 0; i < AIMS; i++)
+        n += request_seen[aims[i].op][aims[i].code] == 0;
+    return n;
+}
+
+static void print_coverage(void)
+{
+    for (unsigned k = 0; k < CALLS; k++) {
+        printf("%s:", call_names[k]);
+        for (unsigned i = 0; i < 8; i++)
+            if (call_seen[k][i] != 0)
+                printf(" code %u x%lu", i, call_seen[k][i]);
+        printf("\n");
+    }
+    for (unsigned op = 0; op < 7; op++) {
+        printf("operation %u:", op);
+        for (unsigned i = 0; i < 23; i++)
+            if (request_seen[op][i] != 0)
+                printf(" code %u x%lu", i, request_seen[op][i]);
+        printf("\n");
+    }
+    printf("accepted blocks of 0..5 requests:");
+    for (unsigned i = 0; i < 6; i++)
+        printf(" %lu", blocks_of[i]);
+    printf("\nmissing %u\n", missing());
+}
+
+static int make_coverage(unsigned long n)
+{
+    static struct call_case c;
+    next_fault = below(SURFACE_FAULTS);
+    for (unsigned long i = 0; i < n; i++) {
+        draw_case(&c, i);
+        count_case(&c, make_call(&c));
+    }
+    print_coverage();
+    return missing() == 0 ? 0 : 1;
+}
+
+/* ---- the command line -------------------------------------------------------------- */
+
+static int usage(void)
+{
+    fprintf(stderr, "generate stream KIND SEED N\n"
+                    "generate cases SEED N\n"
+                    "generate coverage SEED N\n");
+    return 2;
+}
+
+int main(int argc, char **argv)
+{
+    if (argc < 4)
+        return usage();
+    int stream = strcmp(argv[1], "stream") == 0;
+    if (argc != (stream ? 5 : 4))
+        return usage();
+    state = strtoull(argv[argc - 2], NULL, 10);
+    wanted = strtoul(argv[argc - 1], NULL, 10);
+    if (stream)
+        return make_stream(argv[2]);
+    if (strcmp(argv[1], "cases") == 0)
+        return make_cases(wanted);
+    if (strcmp(argv[1], "coverage") == 0)
+        return make_coverage(wanted);
+    return usage();
+}

@@ -1,0 +1,8 @@
+# need PROGRAM PACKAGE..: installs Debian's packages where the program is missing. Sourced by the two commands.
+need() {
+    program=$1
+    shift
+    command -v "$program" >/dev/null 2>&1 && return 0
+    echo "installing $* for $program"
+    apt-get update -qq && DEBIAN_FRONTEND=noninteractive apt-get install -y -qq "$@"
+}
