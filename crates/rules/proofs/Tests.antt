@@ -84,6 +84,9 @@ unfolding every
 every-yes zero p h = refl
 every-yes (suc n) p h = and-both (every-yes n p (λ k l. h k (omega arith))) (h n (omega arith))
 
+pub every-no : (n : ℕ) (p : ℕ → Bool) (k : ℕ) → k < n → p k ≡ false → every n p ≡ false
+every-no n p k h e = fails (every n p) (λ q. true≢false (sym (every-at n p q k h) ∙ e))
+
 -- where it fails
 pub every-fails : (n : ℕ) (p : ℕ → Bool) → every n p ≡ false → (k : ℕ) × (k < n) × (p k ≡ false)
 unfolding every

@@ -1,0 +1,73 @@
+-- Laws of signed weights, by cases on ℤ. Assumes nothing.
+use mathlib.Core.Path.{_≡_, refl, sym, subst, subst⁻¹}
+use mathlib.Core.Bool.{Bool, true, false, not}
+use Prim.Native.Nat.{ℕ, zero, suc, _+_, _*_, _<_, _≤_, _^_}
+use native.Mathlib.Nat.{mul-le-mul-right, le-mul-of-pos-right, add-mul}
+use native.Mathlib.Omega.{arith}
+use borrow.Author.Tests.{le-ltb, ltb-true}
+use lib.Dec.{T, ltb}
+use lib.IntN.{ℤ, pos, negsuc, natAbs, negℤ, _-ℤ_, _+ℤ_, +ℤ-idl}
+use lib.Signed.{ltZ, mag, nonNeg}
+use mir.Syntax.{Width, w16, w32, w64}
+use mir.Val.{toZ, ofZ, SFits, Fits}
+use mir.ValLaws.{toZ-ofZ}
+use Rattle.cells.specs.Weight.{takenZ, countOf, widthOf}
+
+-- what holds of a number holds of what the machine reads back from its bits
+pub back : (w : Width) (P : ℤ → Type 0) {z : ℤ} → SFits w z → P z → P (toZ w (ofZ w z))
+back w P {z} f p = subst⁻¹ P (toZ-ofZ w z f) p
+
+pub taken-test : (z : ℤ) → ltZ z (pos 0) ≡ takenZ z
+taken-test (pos n) = le-ltb n 0 (omega arith)
+taken-test (negsuc n) = refl
+
+-- not below 0
+pub count-at : (z : ℤ) → ltZ z (pos 0) ≡ false → natAbs z ≡ countOf z
+count-at (pos n) e = refl
+count-at (negsuc n) e = absurd (subst T e tt)
+
+-- a signed test's flag, said of the number and not of what is read back from its bits
+pub plain : (w : Width) (P : ℤ → Type 0) {z : ℤ} → SFits w z → P (toZ w (ofZ w z)) → P z
+plain w P {z} f p = subst P (toZ-ofZ w z f) p
+
+pub count-fits : (z : ℤ) → SFits w16 z → ltZ z (pos 0) ≡ false → T (nonNeg z) × Fits w64 (natAbs z)
+count-fits (pos n) f e = (tt, record { fits = let h = f .sfits in omega arith })
+count-fits (negsuc n) f e = absurd (subst T e tt)
+
+pub count-neg : (z : ℤ) → ltZ z (pos 0) ≡ true → 0 ≡ countOf z
+count-neg (pos zero) e = refl
+count-neg (pos (suc n)) e = let h : suc n < 0 = ltb-true (suc n) 0 e in omega arith
+count-neg (negsuc n) e = refl
+
+pub wider : {z : ℤ} → SFits w16 z → SFits w32 z
+wider f = record { sfits = let h = f .sfits in omega arith }
+
+-- the machine's negation is 0 less the number
+pub neg-is : (z : ℤ) → pos 0 -ℤ z ≡ negℤ z
+neg-is z = +ℤ-idl (negℤ z)
+
+pub neg-fits : (z : ℤ) → SFits w16 z → SFits w32 (negℤ z)
+neg-fits (pos zero) f = record { sfits = omega arith }
+neg-fits (pos (suc n)) f = record { sfits = let h = f .sfits in omega arith }
+neg-fits (negsuc n) f = record { sfits = let h = f .sfits in omega arith }
+
+pub width-fits : (z : ℤ) → SFits w16 z → ltZ z (pos 0) ≡ true → T (nonNeg (negℤ z)) × Fits w64 (natAbs (negℤ z))
+width-fits (pos zero) f e = absurd (subst T (sym e) tt)
+width-fits (pos (suc n)) f e = let h : suc n < 0 = ltb-true (suc n) 0 e in absurd (omega arith)
+width-fits (negsuc n) f e = (tt, record { fits = let h = f .sfits in omega arith })
+
+pub width-at : (z : ℤ) → ltZ z (pos 0) ≡ true → natAbs (negℤ z) ≡ widthOf z
+width-at (pos zero) e = absurd (subst T (sym e) tt)
+width-at (pos (suc n)) e = let h : suc n < 0 = ltb-true (suc n) 0 e in absurd (omega arith)
+width-at (negsuc n) e = refl
+
+pub width-none : (z : ℤ) → ltZ z (pos 0) ≡ false → 0 ≡ widthOf z
+width-none (pos n) e = refl
+width-none (negsuc n) e = absurd (subst T e tt)
+
+-- a cell of a rectangle that lies on the surface: its number, and its row
+pub cell-in : (w x y mw mh i j n : ℕ) → x + mw ≤ w → (y + mh) * w ≤ n → i < mw → j < mh → ((y + j) * w + (x + i) < n) × (y + j < n)
+cell-in w x y mw mh i j n hx hn hi hj =
+    let a : (y + j + 1) * w ≤ (y + mh) * w = mul-le-mul-right w (omega arith) in
+    let b : y + mh ≤ (y + mh) * w = le-mul-of-pos-right (y + mh) (omega arith) in
+    (omega (arith, add-mul (y + j) 1 w), omega arith)

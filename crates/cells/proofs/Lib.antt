@@ -1,0 +1,4 @@
+-- `Laws`: signed weights by cases. `Upto`, `Parts`: loops that fill a buffer.
+pub mod Laws
+pub mod Upto
+pub mod Parts

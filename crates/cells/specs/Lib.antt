@@ -1,0 +1,2 @@
+-- What one weight says.
+pub mod Weight

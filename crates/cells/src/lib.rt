@@ -1,0 +1,98 @@
+// One weight: signed 16-bit, negative for an occupied cell, a positive count for an empty one. Signed arithmetic stands here and nowhere else.
+ghost use mathlib.Core.Path.{_≡_};
+ghost use Prim.Native.Nat.{ℕ, _+_, _*_, _≤_, _<_};
+ghost use lib.ListN.{length, getD, set};
+ghost use lib.IntN.{ℤ, pos, negℤ};
+ghost use Rattle.cells.specs.Weight.{takenZ, countOf, widthOf, untaken};
+
+pub fn is_taken(v: i16) -> bool
+    ensures { λ r. ⌜ r ≡ takenZ v ⌝ }
+{
+    v < 0
+}
+
+pub fn count_of(v: i16) -> usize
+    ensures { λ r. ⌜ r ≡ countOf v ⌝ }
+{
+    if v < 0 { 0 } else { v as usize }
+}
+
+pub fn width_of(v: i16) -> usize
+    ensures { λ r. ⌜ r ≡ widthOf v ⌝ }
+{
+    if v < 0 { (0 - (v as i32)) as usize } else { 0 }
+}
+
+// The weight of an empty cell with n cells counted.
+pub fn counted(n: usize) -> i16
+    requires { ⌜ n ≤ 32767 ⌝ }
+    ensures { λ r. ⌜ r ≡ pos n ⌝ }
+{
+    n as i16
+}
+
+// The weight of an occupied cell with the number n.
+pub fn occupied_by(n: usize) -> i16
+    requires { ⌜ n ≤ 32767 ⌝ }
+    ensures { λ r. ⌜ r ≡ negℤ (pos n) ⌝ }
+{
+    -(n as i16)
+}
+
+pub fn taken_at(s: &[i16], i: usize) -> bool
+    requires { ⌜ i < length (now s) ⌝ }
+    ensures { λ r. ⌜ r ≡ takenZ (getD (now (s .entry)) i (pos 0)) ⌝ }
+{
+    is_taken(s[i])
+}
+
+pub fn count_at(s: &[i16], i: usize) -> usize
+    requires { ⌜ i < length (now s) ⌝ }
+    ensures { λ r. ⌜ r ≡ countOf (getD (now (s .entry)) i (pos 0)) ⌝ }
+{
+    count_of(s[i])
+}
+
+pub fn width_at(s: &[i16], i: usize) -> usize
+    requires { ⌜ i < length (now s) ⌝ }
+    ensures { λ r. ⌜ r ≡ widthOf (getD (now (s .entry)) i (pos 0)) ⌝ }
+{
+    width_of(s[i])
+}
+
+pub fn put_count(s: &mut [i16], i: usize, n: usize)
+    requires { ⌜ i < length (now s) ⌝ }
+    requires { ⌜ n ≤ 32767 ⌝ }
+    ensures { λ _. ⌜ now (s .exit) ≡ set (now (s .entry)) i (pos n) ⌝ }
+{
+    s[i] = counted(n);
+}
+
+pub fn put_occupied(s: &mut [i16], i: usize, n: usize)
+    requires { ⌜ i < length (now s) ⌝ }
+    requires { ⌜ n ≤ 32767 ⌝ }
+    ensures { λ _. ⌜ now (s .exit) ≡ set (now (s .entry)) i (negℤ (pos n)) ⌝ }
+{
+    s[i] = occupied_by(n);
+}
+
+// Whether no cell of the mw by mh rectangle at (x, y) is occupied. Both walks end at the first occupied cell.
+pub fn none_taken(s: &[i16], w: usize, x: usize, y: usize, mw: usize, mh: usize) -> bool
+    requires { ⌜ (x + mw ≤ w) × ((y + mh) * w ≤ length (now s)) ⌝ }
+    ensures { λ r. ⌜ r ≡ untaken w (now (s .entry)) x y mw mh ⌝ }
+{
+    let mut free = true;
+    let mut j = 0;
+    'rows: while j < mh {
+        let mut i = 0;
+        while i < mw {
+            if taken_at(s, (y + j) * w + (x + i)) {
+                free = false;
+                break 'rows;
+            }
+            i += 1;
+        }
+        j += 1;
+    }
+    free
+}
