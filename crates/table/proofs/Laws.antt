@@ -1,0 +1,50 @@
+-- Laws of a slot's bytes. Assumes nothing.
+use mathlib.Core.Path.{_≡_, refl, sym, ap, _∙_}
+use mathlib.Core.Bool.{Bool, true, false}
+use mathlib.Core.Logic.{_⊎_, inl, inr, ⊎-elim}
+use mathlib.Core.List.{List}
+use Prim.Native.Nat.{ℕ, zero, suc, _+_, _*_, _≤_, _<_}
+use native.Mathlib.Omega.{arith}
+use lib.Dec.{eqb}
+use borrow.Author.Tests.{eqb-true, eqb-false, eq-eqb}
+use Rattle.rules.specs.Tests.{every}
+use Rattle.rules.specs.Surface.{byte, freeSlot}
+use Rattle.rules.proofs.Tests.{fails, decide, every-at, every-yes}
+
+-- a free slot's bytes are zero
+pub free-byte : (t : List ℕ) (i : ℕ) → freeSlot t i ≡ true → (k : ℕ) → k < 8 → byte t i k ≡ 0
+unfolding freeSlot
+free-byte t i e k h = eqb-true (byte t i k) 0 (every-at 8 (λ k. eqb (byte t i k) 0) e k h)
+
+pub bytes-free : (t : List ℕ) (i : ℕ) → ((k : ℕ) → k < 8 → byte t i k ≡ 0) → freeSlot t i ≡ true
+unfolding freeSlot
+bytes-free t i h = every-yes 8 (λ k. eqb (byte t i k) 0) (λ k l. eq-eqb (byte t i k) 0 (h k l))
+
+-- below eight there are eight
+below-eight : (P : ℕ → Type 0) → P 0 → P 1 → P 2 → P 3 → P 4 → P 5 → P 6 → P 7 → (k : ℕ) → k < 8 → P k
+below-eight P a b c d e f g h zero l = a
+below-eight P a b c d e f g h (suc zero) l = b
+below-eight P a b c d e f g h (suc (suc zero)) l = c
+below-eight P a b c d e f g h (suc (suc (suc zero))) l = d
+below-eight P a b c d e f g h (suc (suc (suc (suc zero)))) l = e
+below-eight P a b c d e f g h (suc (suc (suc (suc (suc zero))))) l = f
+below-eight P a b c d e f g h (suc (suc (suc (suc (suc (suc zero)))))) l = g
+below-eight P a b c d e f g h (suc (suc (suc (suc (suc (suc (suc zero))))))) l = h
+below-eight P a b c d e f g h (suc (suc (suc (suc (suc (suc (suc (suc k)))))))) l = absurd (omega arith)
+
+-- the slot is free exactly when the sum of its bytes is 0
+abbrev sum : List ℕ → ℕ → ℕ
+sum t i = byte t i 0 + byte t i 1 + byte t i 2 + byte t i 3 + (byte t i 4 + byte t i 5 + byte t i 6 + byte t i 7)
+
+pub free-sum : (t : List ℕ) (i : ℕ) → eqb (sum t i) 0 ≡ freeSlot t i
+free-sum t i =
+    ⊎-elim
+    (λ (e : eqb (sum t i) 0 ≡ true).
+    let z = eqb-true (sum t i) 0 e in
+    e ∙ sym (bytes-free t i (below-eight (λ k. byte t i k ≡ 0) (omega arith) (omega arith) (omega arith) (omega arith) (omega arith) (omega arith) (omega arith) (omega arith))))
+    (λ (e : eqb (sum t i) 0 ≡ false).
+    let z = eqb-false (sum t i) 0 e in
+    e ∙ sym (fails (freeSlot t i) (λ f.
+    let b = free-byte t i f in
+    omega (arith, b 0 (omega arith), b 1 (omega arith), b 2 (omega arith), b 3 (omega arith), b 4 (omega arith), b 5 (omega arith), b 6 (omega arith), b 7 (omega arith)))))
+    (decide (eqb (sum t i) 0))

@@ -1,0 +1,2 @@
+-- Laws of a slot's bytes.
+pub mod Laws
