@@ -1,7 +1,8 @@
 -- THE SURFACE: its cells, its table, its weights, and when it stands. W columns and H rows; column 0 is at the left, row 0 at the top.
+use mathlib.Core.Path.{_≡_}
 use mathlib.Core.Bool.{Bool, true, false, not, cond, _&&_, _||_}
 use mathlib.Core.List.{List, [], _∷_}
-use Prim.Native.Nat.{ℕ, zero, suc, _+_, _-_, _*_, _/_, _%_}
+use Prim.Native.Nat.{ℕ, zero, suc, _+_, _-_, _*_, _/_, _%_, _≤_}
 use lib.Dec.{leb, ltb, eqb}
 use lib.IntN.{ℤ, pos, negℤ}
 use lib.ListN.{length, getD}
@@ -117,6 +118,18 @@ weightsRight W H s t = every H (λ y. every W (λ x. eqZ (cell W s x y) (weight 
 
 unfoldable pub stands : ℕ → ℕ → List ℤ → List ℕ → Bool
 stands W H s t = slotsSound W H t && idsDiffer t && modulesApart W H t && weightsRight W H s t
+
+-- a surface whose sizes and lengths are right and that stands: what a call has found out before it goes on. What inner functions ask
+pub record Standing (W H : ℕ) (s : List ℤ) (t : List ℕ) : Type 0 where
+  pub wide : 1 ≤ W
+  pub widest : W ≤ 64
+  pub high : 1 ≤ H
+  pub highest : H ≤ 64
+  pub long : length s ≡ W * H
+  pub whole : length t ≡ 8 * slots t
+  pub some : 1 ≤ slots t
+  pub few : slots t ≤ 256
+  pub sound : stands W H s t ≡ true
 
 -- how many slots are used
 unfoldable pub usedSlots : List ℕ → ℕ
