@@ -82,17 +82,17 @@ lowest-one ls (suc c) (suc d) p q =
 pub judging-lowest : (W H : ℕ) (t q : List ℕ) → Lowest (judging W H t q) (first (judging W H t q))
 judging-lowest W H t q = first-lowest 0 (judging W H t q) (unfold soundLines placeLines rising in refl)
 
-pub clear-lowest : (W H : ℕ) (s : List ℤ) (t : List ℕ) → Lowest (clearLines W H s t) (first (clearLines W H s t))
-clear-lowest W H s t = first-lowest 0 (clearLines W H s t) (unfold clearLines rising in refl)
+pub clear-lowest : (bad : Bool) (W H : ℕ) (t : List ℕ) → Lowest (clearLines bad W H t) (first (clearLines bad W H t))
+clear-lowest bad W H t = first-lowest 0 (clearLines bad W H t) (unfold clearLines rising in refl)
 
-pub check-lowest : (W H : ℕ) (s : List ℤ) (t : List ℕ) → Lowest (checkLines W H s t) (first (checkLines W H s t))
-check-lowest W H s t = first-lowest 0 (checkLines W H s t) (unfold checkLines rising in refl)
+pub check-lowest : (bad : Bool) (W H : ℕ) (s : List ℤ) (t : List ℕ) → Lowest (checkLines bad W H s t) (first (checkLines bad W H s t))
+check-lowest bad W H s t = first-lowest 0 (checkLines bad W H s t) (unfold checkLines rising in refl)
 
-pub run-lowest : (W H : ℕ) (s : List ℤ) (t b a : List ℕ) → Lowest (runLines W H s t b a) (first (runLines W H s t b a))
-run-lowest W H s t b a = first-lowest 0 (runLines W H s t b a) (unfold runLines rising in refl)
+pub run-lowest : (bad : Bool) (W H : ℕ) (s : List ℤ) (t b a : List ℕ) → Lowest (runLines bad W H s t b a) (first (runLines bad W H s t b a))
+run-lowest bad W H s t b a = first-lowest 0 (runLines bad W H s t b a) (unfold runLines rising in refl)
 
-pub list-lowest : (W H : ℕ) (s : List ℤ) (t room : List ℕ) → Lowest (listLines W H s t room) (first (listLines W H s t room))
-list-lowest W H s t room = first-lowest 0 (listLines W H s t room) (unfold listLines rising in refl)
+pub list-lowest : (bad : Bool) (W H : ℕ) (s : List ℤ) (t room : List ℕ) → Lowest (listLines bad W H s t room) (first (listLines bad W H s t room))
+list-lowest bad W H s t room = first-lowest 0 (listLines bad W H s t room) (unfold listLines rising in refl)
 
 -- ---- a refusal has a code of its own
 

@@ -91,18 +91,18 @@ request-lowest = L.judging-lowest
 pub refused-code : (W H : ℕ) (t q : List ℕ) (c : ℕ) → stepOf W H t q ≡ Refused c → 11 ≤ c
 refused-code = L.refused-code
 
-pub clear-lowest : (W H : ℕ) (s : List ℤ) (t : List ℕ) → Lowest (clearLines W H s t) (clearCode W H s t)
+pub clear-lowest : (bad : Bool) (W H : ℕ) (t : List ℕ) → Lowest (clearLines bad W H t) (clearCode bad W H t)
 unfolding clearCode
 clear-lowest = L.clear-lowest
 
-pub check-lowest : (W H : ℕ) (s : List ℤ) (t : List ℕ) → Lowest (checkLines W H s t) (checkCode W H s t)
+pub check-lowest : (bad : Bool) (W H : ℕ) (s : List ℤ) (t : List ℕ) → Lowest (checkLines bad W H s t) (checkCode bad W H s t)
 unfolding checkCode
 check-lowest = L.check-lowest
 
-pub run-lowest : (W H : ℕ) (s : List ℤ) (t b a : List ℕ) → Lowest (runLines W H s t b a) (runCode W H s t b a)
+pub run-lowest : (bad : Bool) (W H : ℕ) (s : List ℤ) (t b a : List ℕ) → Lowest (runLines bad W H s t b a) (runCode bad W H s t b a)
 unfolding runCode
 run-lowest = L.run-lowest
 
-pub list-lowest : (W H : ℕ) (s : List ℤ) (t room : List ℕ) → Lowest (listLines W H s t room) (listCode W H s t room)
+pub list-lowest : (bad : Bool) (W H : ℕ) (s : List ℤ) (t room : List ℕ) → Lowest (listLines bad W H s t room) (listCode bad W H s t room)
 unfolding listCode
 list-lowest = L.list-lowest

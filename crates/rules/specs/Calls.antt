@@ -1,5 +1,8 @@
 -- THE FOUR CALLS: code, counts and every lent buffer afterwards, for any numbers and any bytes. "Each call returns a code and its counts; the
 -- counts are 0 when it refuses." "A refused call writes to no lent buffer."
+--
+-- Each is stated once, over `bad`: whether the weights have the wrong length. That is tested in numbers here (`badWeights`), and in bytes
+-- where the host lends bytes (Host).
 use mathlib.Core.Bool.{Bool, not, cond, _&&_, _||_}
 use mathlib.Core.List.{List, [], _∷_, _++_}
 use Prim.Native.Nat.{ℕ, _+_, _*_, _/_, _%_}
@@ -7,7 +10,7 @@ use lib.Dec.{ltb, eqb}
 use lib.IntN.{ℤ, pos}
 use lib.ListN.{length, drop, replicate}
 use Rattle.rules.specs.Tests.{between, tab}
-use Rattle.rules.specs.Surface.{slots, occupied, stands, usedSlots}
+use Rattle.rules.specs.Surface.{occupied, stands, usedSlots}
 use Rattle.rules.specs.Empties.{entries, entryRecords, corners}
 use Rattle.rules.specs.Judging.{Line, _when_, first}
 use Rattle.rules.specs.Blocks.{State, started, requests, after}
@@ -16,20 +19,20 @@ use Rattle.rules.specs.declared.Rect.{Rect}
 -- ---- the codes, "Given exactly when"; "The lowest code that applies is given."
 
 -- 1: W or H not in 1..64
-abbrev pub badSize : ℕ → ℕ → Bool
+unfoldable pub badSize : ℕ → ℕ → Bool
 badSize W H = not (between 1 64 W) || not (between 1 64 H)
 
 -- 2: weights not W·H long
 abbrev pub badWeights : ℕ → ℕ → List ℤ → Bool
 badWeights W H s = not (eqb (length s) (W * H))
 
--- 3: table not a multiple of 8 bytes, or not 1..256 slots
-abbrev pub badTable : List ℕ → Bool
-badTable t = not (eqb (length t % 8) 0) || not (between 1 256 (slots t))
+-- 3: table not a multiple of 8 bytes, or not 1..256 slots; n is its length
+unfoldable pub badTable : ℕ → Bool
+badTable n = not (eqb (n % 8) 0) || not (between 1 256 (n / 8))
 
--- 4: block not a multiple of 8 bytes, or over 512 requests
-abbrev pub badBlock : List ℕ → Bool
-badBlock b = not (eqb (length b % 8) 0) || ltb 512 (requests b)
+-- 4: block not a multiple of 8 bytes, or over 512 requests; n is its length
+unfoldable pub badBlock : ℕ → Bool
+badBlock n = not (eqb (n % 8) 0) || ltb 512 (n / 8)
 
 -- 5: answers not as long as the block
 abbrev pub badAnswers : List ℕ → List ℕ → Bool
@@ -47,9 +50,9 @@ entriesOf W H t = entries (occupied t) W H
 abbrev pub shortRoom : ℕ → ℕ → List ℕ → List ℕ → Bool
 shortRoom W H t room = ltb (length room) (8 * length (entriesOf W H t))
 
--- every call begins with these, and all but clear go on to ask whether the surface stands
-abbrev pub sizeLines : ℕ → ℕ → List ℤ → List ℕ → List Line
-sizeLines W H s t = 1 when badSize W H ∷ 2 when badWeights W H s ∷ 3 when badTable t ∷ []
+-- every call begins with these, n being the table's length, and all but clear go on to ask whether the surface stands
+abbrev pub sizeLines : Bool → ℕ → ℕ → ℕ → List Line
+sizeLines bad W H n = 1 when badSize W H ∷ 2 when bad ∷ 3 when badTable n ∷ []
 
 abbrev pub standLines : ℕ → ℕ → List ℤ → List ℕ → List Line
 standLines W H s t = let unsound = fallen W H s t in 6 when unsound ∷ []
@@ -60,11 +63,11 @@ resultOf code one two = code + 65536 * one + 4294967296 * two
 
 -- ---- clear: codes 1, 2, 3; no count
 
-unfoldable pub clearLines : ℕ → ℕ → List ℤ → List ℕ → List Line
-clearLines W H s t = sizeLines W H s t
+unfoldable pub clearLines : Bool → ℕ → ℕ → List ℕ → List Line
+clearLines bad W H t = sizeLines bad W H (length t)
 
-unfoldable pub clearCode : ℕ → ℕ → List ℤ → List ℕ → ℕ
-clearCode W H s t = first (clearLines W H s t)
+unfoldable pub clearCode : Bool → ℕ → ℕ → List ℕ → ℕ
+clearCode bad W H t = first (clearLines bad W H t)
 
 -- "Clear frees all slots and gives cell (x, y) weight y + 1."
 abbrev pub clearedTable : List ℕ → List ℕ
@@ -78,43 +81,49 @@ pub record Cleared : Type 0 where
   pub weights : List ℤ
   pub table : List ℕ
 
-unfoldable pub clear : ℕ → ℕ → List ℤ → List ℕ → Cleared
-clear W H s t =
-    let done = eqb (clearCode W H s t) 0 in
+unfoldable pub clearWith : Bool → ℕ → ℕ → List ℤ → List ℕ → Cleared
+clearWith bad W H s t =
+    let done = eqb (clearCode bad W H t) 0 in
     let weights = clearedWeights W H in
     let table = clearedTable t in
-    record { code = clearCode W H s t; weights = cond done weights s; table = cond done table t }
+    record { code = clearCode bad W H t; weights = cond done weights s; table = cond done table t }
+
+abbrev pub clear : ℕ → ℕ → List ℤ → List ℕ → Cleared
+clear W H s t = clearWith (badWeights W H s) W H s t
 
 abbrev pub clearResult : Cleared → ℕ
 clearResult r = resultOf (r .code) 0 0
 
 -- ---- check: codes 1, 2, 3, 6; counts the used slots. It writes nothing
 
-unfoldable pub checkLines : ℕ → ℕ → List ℤ → List ℕ → List Line
-checkLines W H s t = sizeLines W H s t ++ standLines W H s t
+unfoldable pub checkLines : Bool → ℕ → ℕ → List ℤ → List ℕ → List Line
+checkLines bad W H s t = sizeLines bad W H (length t) ++ standLines W H s t
 
-unfoldable pub checkCode : ℕ → ℕ → List ℤ → List ℕ → ℕ
-checkCode W H s t = first (checkLines W H s t)
+unfoldable pub checkCode : Bool → ℕ → ℕ → List ℤ → List ℕ → ℕ
+checkCode bad W H s t = first (checkLines bad W H s t)
 
 pub record Checked : Type 0 where
   pub code : ℕ
   pub used : ℕ
 
-unfoldable pub check : ℕ → ℕ → List ℤ → List ℕ → Checked
-check W H s t =
+unfoldable pub checkWith : Bool → ℕ → ℕ → List ℤ → List ℕ → Checked
+checkWith bad W H s t =
     let used = usedSlots t in
-    record { code = checkCode W H s t; used = cond (eqb (checkCode W H s t) 0) used 0 }
+    record { code = checkCode bad W H s t; used = cond (eqb (checkCode bad W H s t) 0) used 0 }
+
+abbrev pub check : ℕ → ℕ → List ℤ → List ℕ → Checked
+check W H s t = checkWith (badWeights W H s) W H s t
 
 abbrev pub checkResult : Checked → ℕ
 checkResult r = resultOf (r .code) (r .used) 0
 
 -- ---- run a block: codes 1 to 6; counts the requests accepted
 
-unfoldable pub runLines : ℕ → ℕ → List ℤ → List ℕ → List ℕ → List ℕ → List Line
-runLines W H s t b a = sizeLines W H s t ++ (4 when badBlock b ∷ 5 when badAnswers b a ∷ []) ++ standLines W H s t
+unfoldable pub runLines : Bool → ℕ → ℕ → List ℤ → List ℕ → List ℕ → List ℕ → List Line
+runLines bad W H s t b a = sizeLines bad W H (length t) ++ (4 when badBlock (length b) ∷ 5 when badAnswers b a ∷ []) ++ standLines W H s t
 
-unfoldable pub runCode : ℕ → ℕ → List ℤ → List ℕ → List ℕ → List ℕ → ℕ
-runCode W H s t b a = first (runLines W H s t b a)
+unfoldable pub runCode : Bool → ℕ → ℕ → List ℤ → List ℕ → List ℕ → List ℕ → ℕ
+runCode bad W H s t b a = first (runLines bad W H s t b a)
 
 pub record Ran : Type 0 where
   pub code : ℕ
@@ -123,24 +132,27 @@ pub record Ran : Type 0 where
   pub table : List ℕ
   pub answers : List ℕ
 
-unfoldable pub run : ℕ → ℕ → List ℤ → List ℕ → List ℕ → List ℕ → Ran
-run W H s t b a =
-    let done = eqb (runCode W H s t b a) 0 in
+unfoldable pub runWith : Bool → ℕ → ℕ → List ℤ → List ℕ → List ℕ → List ℕ → Ran
+runWith bad W H s t b a =
+    let done = eqb (runCode bad W H s t b a) 0 in
     let end = after W H b (started s t) (requests b) in
     let refused : State = record { weights = s; table = t; answers = a; accepted = 0 } in
     let left : State = cond done end refused in
-    record { code = runCode W H s t b a; accepted = left .accepted; weights = left .weights; table = left .table; answers = left .answers }
+    record { code = runCode bad W H s t b a; accepted = left .accepted; weights = left .weights; table = left .table; answers = left .answers }
+
+abbrev pub run : ℕ → ℕ → List ℤ → List ℕ → List ℕ → List ℕ → Ran
+run W H s t b a = runWith (badWeights W H s) W H s t b a
 
 abbrev pub runResult : Ran → ℕ
 runResult r = resultOf (r .code) (r .accepted) 0
 
 -- ---- list: codes 1, 2, 3, 6, 7; counts entries and corners. It writes to the room alone
 
-unfoldable pub listLines : ℕ → ℕ → List ℤ → List ℕ → List ℕ → List Line
-listLines W H s t room = let tooShort = shortRoom W H t room in sizeLines W H s t ++ standLines W H s t ++ (7 when tooShort ∷ [])
+unfoldable pub listLines : Bool → ℕ → ℕ → List ℤ → List ℕ → List ℕ → List Line
+listLines bad W H s t room = let tooShort = shortRoom W H t room in sizeLines bad W H (length t) ++ standLines W H s t ++ (7 when tooShort ∷ [])
 
-unfoldable pub listCode : ℕ → ℕ → List ℤ → List ℕ → List ℕ → ℕ
-listCode W H s t room = first (listLines W H s t room)
+unfoldable pub listCode : Bool → ℕ → ℕ → List ℤ → List ℕ → List ℕ → ℕ
+listCode bad W H s t room = first (listLines bad W H s t room)
 
 pub record Listed : Type 0 where
   pub code : ℕ
@@ -152,13 +164,16 @@ pub record Listed : Type 0 where
 abbrev pub roomAfter : ℕ → ℕ → List ℕ → List ℕ → List ℕ
 roomAfter W H t room = entryRecords (entriesOf W H t) ++ drop (8 * length (entriesOf W H t)) room
 
-unfoldable pub list : ℕ → ℕ → List ℤ → List ℕ → List ℕ → Listed
-list W H s t room =
-    let done = eqb (listCode W H s t room) 0 in
+unfoldable pub listWith : Bool → ℕ → ℕ → List ℤ → List ℕ → List ℕ → Listed
+listWith bad W H s t room =
+    let done = eqb (listCode bad W H s t room) 0 in
     let found = length (entriesOf W H t) in
     let turns = corners W H t in
     let written = roomAfter W H t room in
-    record { code = listCode W H s t room; entries = cond done found 0; corners = cond done turns 0; room = cond done written room }
+    record { code = listCode bad W H s t room; entries = cond done found 0; corners = cond done turns 0; room = cond done written room }
+
+abbrev pub list : ℕ → ℕ → List ℤ → List ℕ → List ℕ → Listed
+list W H s t room = listWith (badWeights W H s) W H s t room
 
 abbrev pub listResult : Listed → ℕ
 listResult r = resultOf (r .code) (r .entries) (r .corners)

@@ -6,5 +6,6 @@ pub mod Judging
 pub mod Requests
 pub mod Blocks
 pub mod Calls
+pub mod Host
 pub mod Figures
 pub mod Examples
