@@ -123,6 +123,17 @@ any-none n p e k h = fails (p k) (λ q. true≢false (sym (any-yes n p k h q) �
 pub none-any : (n : ℕ) (p : ℕ → Bool) → ((k : ℕ) → k < n → p k ≡ false) → any n p ≡ false
 none-any n p h = fails (any n p) (λ q. let w = any-at n p q in true≢false (sym (w .2) ∙ h (w .0) (w .1)))
 
+-- the same tests give the same
+pub every-same : (n : ℕ) (p q : ℕ → Bool) → ((k : ℕ) → k < n → p k ≡ q k) → every n p ≡ every n q
+unfolding every
+every-same zero p q h = refl
+every-same (suc n) p q h = ap₂ _&&_ (every-same n p q (λ k l. h k (omega arith))) (h n (omega arith))
+
+pub any-same : (n : ℕ) (p q : ℕ → Bool) → ((k : ℕ) → k < n → p k ≡ q k) → any n p ≡ any n q
+unfolding any
+any-same zero p q h = refl
+any-same (suc n) p q h = ap₂ _||_ (any-same n p q (λ k l. h k (omega arith))) (h n (omega arith))
+
 -- ---- least
 
 -- what leastFrom a n p comes to: none of the n numbers, or the first of them for which p holds

@@ -1,0 +1,2 @@
+-- Laws behind the proofs of `surface`, plain mathematics.
+pub mod SlotLaws
