@@ -33,6 +33,12 @@ module _ (occ : ℕ → ℕ → Bool) (x : ℕ) where
       go true h = omega arith
       go false h = omega arith
 
+  -- none ends in an occupied cell
+  pub upwards-taken : (y : ℕ) → occ x y ≡ true → upwards occ x y ≡ 0
+  unfolding upwards
+  upwards-taken zero e = rw e
+  upwards-taken (suc y) e = rw e
+
   -- its cells are empty
   pub upwards-free : (y r : ℕ) → r ≤ y → suc y ≤ r + upwards occ x y → occ x r ≡ false
   unfolding upwards

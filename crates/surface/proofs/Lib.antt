@@ -1,2 +1,4 @@
 -- Laws behind the proofs of `surface`, plain mathematics.
 pub mod SlotLaws
+pub mod MarkLaws
+pub mod RowLaws

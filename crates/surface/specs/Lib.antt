@@ -1,0 +1,3 @@
+-- What the walks of `surface` leave.
+pub mod Marks
+pub mod Rows
