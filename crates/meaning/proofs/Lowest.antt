@@ -2,7 +2,7 @@
 use mathlib.Core.Path.{_≡_, refl, sym, ap, _∙_}
 use mathlib.Core.Bool.{Bool, true, false, cond, _&&_}
 use mathlib.Core.Logic.{_⊎_, inl, inr, ⊎-elim}
-use mathlib.Core.List.{List, [], _∷_, List·Memᴰ, List·Memᴰ·head, List·Memᴰ·tail, List·Memᴰ·not-nil, List·Memᴰ·cases-cons}
+use mathlib.Core.List.{List, [], _∷_, _++_, List·Memᴰ, List·Memᴰ·head, List·Memᴰ·tail, List·Memᴰ·not-nil, List·Memᴰ·cases-cons}
 use Prim.Native.Nat.{ℕ, zero, suc, _+_, _≤_, _<_}
 use native.Mathlib.Nat.{le-refl}
 use native.Mathlib.Omega.{arith}
@@ -76,6 +76,28 @@ lowest-one ls (suc c) (suc d) p q =
     let g = p .given (omega arith) in
     let k = q .given (omega arith) in
     omega (arith, q .least (g .0) (g .1) (g .3), p .least (k .0) (k .1) (k .3), g .2, k .2)
+
+-- ---- a list in two parts
+
+-- where the first part gives a code, that is it
+pub first-stop : (ls ms : List Line) → (first ls ≡ 0 → ⊥) → first (ls ++ ms) ≡ first ls
+unfolding first
+first-stop [] ms ne = absurd (ne refl)
+first-stop (k ∷ ls) ms ne = go (k .applies) ne (first-stop ls ms)
+  where
+    go : (b : Bool) → (cond b (k .code) (first ls) ≡ 0 → ⊥) → ((first ls ≡ 0 → ⊥) → first (ls ++ ms) ≡ first ls) → cond b (k .code) (first (ls ++ ms)) ≡ cond b (k .code) (first ls)
+    go true h r = refl
+    go false h r = r h
+
+-- where it gives none, the second part decides
+pub first-over : (n : ℕ) (ls ms : List Line) → rising n ls ≡ true → first ls ≡ 0 → first (ls ++ ms) ≡ first ms
+unfolding first rising
+first-over n [] ms u e = refl
+first-over n (k ∷ ls) ms u e = go (k .applies) e (first-over (k .code) ls ms (and-right (ltb n (k .code)) (rising (k .code) ls) u))
+  where
+    go : (b : Bool) → cond b (k .code) (first ls) ≡ 0 → (first ls ≡ 0 → first (ls ++ ms) ≡ first ms) → cond b (k .code) (first (ls ++ ms)) ≡ first ms
+    go true h r = absurd (let z = ltb-true n (k .code) (and-left (ltb n (k .code)) (rising (k .code) ls) u) in omega arith)
+    go false h r = r h
 
 -- ---- THE RULES' OWN LISTS RISE
 

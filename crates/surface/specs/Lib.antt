@@ -1,3 +1,4 @@
--- What the walks of `surface` leave.
+-- What the walks of `surface` leave, and its calls.
 pub mod Marks
 pub mod Rows
+pub mod Outcome
