@@ -1,0 +1,2 @@
+-- Laws of weights and their bytes.
+pub mod Laws

@@ -1,0 +1,64 @@
+use mathlib.Core.Path.{_≡_, refl, sym, _∙_, ap}
+use Prim.Native.Nat.{ℕ, _+_, _*_, _/_, _%_, _≤_, _<_, _-_}
+use native.Mathlib.Omega.{arith}
+use lib.ListN.{length, getD, set, length-set}
+use lib.IntN.{pos}
+use mir.Syntax.{w16}
+use mir.ValLaws.{toZ-ofZ}
+use Rattle.rules.specs.Host.{bytesOf, bits16}
+use Rattle.cells.proofs.Upto.{Upto, upto-none, upto-more, upto-all}
+use Rattle.codec.proofs.Laws.{length-bytesOf, stored-more}
+use Rattle.codec.proofs.encode.Statement.{statement}
+use Rattle.codec.proofs.encode.Tie as tie
+
+abbrev Inv-loop : tie.InvT-loop
+Inv-loop s b₀ k₀ b k = (k ≤ length s) × Upto 0 (bytesOf s) b (2 * k)
+
+abbrev μ-loop : tie.MeasureT-loop
+μ-loop s b₀ k₀ b k = length s - k
+
+loop-holds : tie.Need-loop-holds Inv-loop μ-loop
+loop-holds c = (omega arith, upto-none (c .before .pre ∙ sym (length-bytesOf (c .before .args .s .now))))
+
+mul-put-weight : tie.Need-mul-put-weight Inv-loop μ-loop
+mul-put-weight c = omega arith
+
+shared-slice-copy-out-put-weight : tie.Need-shared-slice-copy-out-put-weight Inv-loop μ-loop
+shared-slice-copy-out-put-weight c = omega arith
+
+put-weight-requires : tie.Need-put-weight-requires Inv-loop μ-loop
+put-weight-requires c κs = omega (arith, c .before .before .before .loop .inv .1 .long, length-bytesOf (c .before .before .before .before .before .args .s .now))
+
+add-k : tie.Need-add-k Inv-loop μ-loop
+add-k c = omega arith
+
+loop-less : tie.Need-loop-less Inv-loop μ-loop
+loop-less c = omega arith
+
+loop-again : tie.Need-loop-again Inv-loop μ-loop
+loop-again c = let l = c .before .before .before .before .before .before .loop in let a = c .before .before .before .before .before .before .before .before .args in
+    let z = getD (a .s .now) (l .k) (pos 0) in
+    (omega arith, stored-more (a .s .now) (l .b) _ (l .k) _ (l .inv .1) (omega arith) (c .before .before .put-weight .ensures) (toZ-ofZ w16 z (record { sfits = c .before .before .before .put-weight-arg2 .given })))
+
+same-length : tie.Need-same-length Inv-loop μ-loop
+same-length c = c .before .loop .inv .1 .long ∙ length-bytesOf (c .before .before .before .args .s .now) ∙ sym (c .before .before .before .pre)
+
+returns : tie.Need-returns Inv-loop μ-loop
+returns c = let a = c .before .before .before .args in
+    upto-all _ (c .before .loop .inv .1) (omega (arith, length-bytesOf (a .s .now)))
+
+pub encode-spec : {M : Type 1} → statement M
+encode-spec =
+    tie.close
+    (tie.spec
+    Inv-loop
+    μ-loop
+    loop-holds
+    mul-put-weight
+    shared-slice-copy-out-put-weight
+    put-weight-requires
+    add-k
+    loop-less
+    loop-again
+    same-length
+    returns)
