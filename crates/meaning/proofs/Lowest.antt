@@ -13,7 +13,7 @@ use Rattle.rules.specs.Judging.{Line, first}
 use Rattle.rules.specs.Surface.{occupied, rectOf}
 use Rattle.rules.specs.Requests.{soundLines, placeLines, judging, isPlace, isRemove, isPin, isExchange, idAsked, ruleOf, wide, high, slotOf, lowestFree, ground, pinned, rulePlace, orNone, acceptedStep, stepOf}
 use Rattle.rules.specs.declared.Rect.{Rect}
-use Rattle.rules.specs.declared.Step.the-variants.{Refused, Placed, Removed}
+use Rattle.rules.specs.declared.Step.the-variants.{Refused, Done}
 use Rattle.rules.specs.Calls.{clearLines, checkLines, runLines, listLines}
 use Rattle.rules.proofs.Tests.{and-left, and-right, not-both}
 
@@ -136,7 +136,7 @@ refused-by W H t q c e = go (isPlace q) (isRemove q) (isPin q) (isExchange q) e
     r : Rect
     r = orNone (rulePlace (occupied (ground t q)) W H (ruleOf q) (wide q) (high q))
 
-    go : (a b d f : Bool) → cond a (Placed (lowestFree t) r) (cond b (Removed old (rectOf t old)) (cond d (Placed (lowestFree t) (pinned q)) (cond f (Placed old r) (Refused 11)))) ≡ Refused c → c ≡ 11
+    go : (a b d f : Bool) → cond a (Done (lowestFree t) r) (cond b (Done old (rectOf t old)) (cond d (Done (lowestFree t) (pinned q)) (cond f (Done old r) (Refused 11)))) ≡ Refused c → c ≡ 11
     go true b d f p = absurd (let z : _≡_ {A = ℕ} 0 1 = cc in omega arith)
     go false true d f p = absurd (let z : _≡_ {A = ℕ} 0 1 = cc in omega arith)
     go false false true f p = absurd (let z : _≡_ {A = ℕ} 0 1 = cc in omega arith)

@@ -12,7 +12,7 @@ use Rattle.rules.specs.Empties.{cellsEmpty, empty, entries, area}
 use Rattle.rules.specs.Judging.{Line, _when_, first}
 use Rattle.rules.specs.declared.Rect.{Rect}
 use Rattle.rules.specs.declared.Step.{Step}
-use Rattle.rules.specs.declared.Step.the-variants.{Refused, Placed, Removed}
+use Rattle.rules.specs.declared.Step.the-variants.{Refused, Done}
 
 -- ---- "A request is 8 bytes: operation, rule, id low, id high, w, h, then bytes 6 and 7."
 
@@ -199,10 +199,10 @@ unfoldable pub acceptedStep : ℕ → ℕ → List ℕ → List ℕ → Step
 acceptedStep W H t q =
     let old = slotOf t (idAsked q) in
     let byRulePlace = orNone (rulePlace (occupied (ground t q)) W H (ruleOf q) (wide q) (high q)) in
-    cond (isPlace q) (Placed (lowestFree t) byRulePlace)
-    (cond (isRemove q) (Removed old (rectOf t old))
-    (cond (isPin q) (Placed (lowestFree t) (pinned q))
-    (cond (isExchange q) (Placed old byRulePlace)
+    cond (isPlace q) (Done (lowestFree t) byRulePlace)
+    (cond (isRemove q) (Done old (rectOf t old))
+    (cond (isPin q) (Done (lowestFree t) (pinned q))
+    (cond (isExchange q) (Done old byRulePlace)
     (Refused 11))))
 
 unfoldable pub stepOf : ℕ → ℕ → List ℕ → List ℕ → Step
@@ -215,34 +215,31 @@ stepOf W H t q =
 
 abbrev pub codeOf : Step → ℕ
 codeOf (Refused c) = c
-codeOf (Placed i r) = 0
-codeOf (Removed i r) = 0
+codeOf (Done i r) = 0
 
 -- "x, y, w, h: of the new module, or of the removed one. A refusal has four zeros there."
 abbrev pub valuesOf : Step → Rect
 valuesOf (Refused c) = rect 0 0 0 0
-valuesOf (Placed i r) = r
-valuesOf (Removed i r) = r
+valuesOf (Done i r) = r
 
 -- "The answer is 8 bytes .. code, operation and id as they came, then x, y, w, h"
 abbrev pub answerOf : List ℕ → Step → List ℕ
-answerOf q d =
-    codeOf d ∷ operation q ∷ idLow q ∷ idHigh q ∷ valuesOf d .x ∷ valuesOf d .y ∷ valuesOf d .w ∷ valuesOf d .h ∷ []
+answerOf q d = codeOf d ∷ operation q ∷ idLow q ∷ idHigh q ∷ valuesOf d .x ∷ valuesOf d .y ∷ valuesOf d .w ∷ valuesOf d .h ∷ []
 
--- "A refused request changes neither weights nor table"; an accepted one changes one record ..
+-- "A refused request changes neither weights nor table"; an accepted one changes one record: free after a remove, else the new module's ..
+abbrev pub recordAfter : List ℕ → Rect → List ℕ
+recordAfter q r = cond (isRemove q) freeRecord (recordOf (idLow q) (idHigh q) r)
+
 abbrev pub tableAfter : List ℕ → Step → List ℕ → List ℕ
 tableAfter q (Refused c) t = t
-tableAfter q (Placed i r) t = withRecord t i (recordOf (idLow q) (idHigh q) r)
-tableAfter q (Removed i r) t = withRecord t i freeRecord
+tableAfter q (Done i r) t = withRecord t i (recordAfter q r)
 
 -- .. and leaves the weights of the modules that are then placed
 abbrev pub weightsAfter : ℕ → ℕ → List ℕ → Step → List ℕ → List ℤ → List ℤ
 weightsAfter W H q (Refused c) t s = s
-weightsAfter W H q (Placed i r) t s = fresh W H (tableAfter q (Placed i r) t)
-weightsAfter W H q (Removed i r) t s = fresh W H (tableAfter q (Removed i r) t)
+weightsAfter W H q (Done i r) t s = fresh W H (tableAfter q (Done i r) t)
 
 -- 1 where the request is accepted
 abbrev pub acceptedOne : Step → ℕ
 acceptedOne (Refused c) = 0
-acceptedOne (Placed i r) = 1
-acceptedOne (Removed i r) = 1
+acceptedOne (Done i r) = 1

@@ -8,10 +8,9 @@ pub struct Rect {
     pub h: usize,
 }
 
-// What a request comes to: refused, with its code; or the slot whose record it changes, with the rectangle of the
+// What a request comes to: refused, with its code; or done, with the slot whose record it changes and the rectangle that its answer names: of the
 // module that stands there now (place, pin, exchange) or of the one that is gone (remove).
 pub enum Step {
     Refused(u8),
-    Placed(usize, Rect),
-    Removed(usize, Rect),
+    Done(usize, Rect),
 }
