@@ -1,0 +1,142 @@
+-- What the weights of a standing surface tell of a row: heights, support, and how far an occupied run goes on. Assumes nothing.
+use mathlib.Core.Path.{_≡_, refl, sym, ap, _∙_, subst}
+use mathlib.Core.Bool.{Bool, true, false, not, cond, _&&_, _||_}
+use mathlib.Core.Logic.{_⊎_, inl, inr, ⊎-elim}
+use mathlib.Core.List.{List}
+use Prim.Native.Nat.{ℕ, zero, suc, _+_, _-_, _*_, _≤_, _<_}
+use native.Mathlib.Nat.{le-refl, mul-comm, mul-le-mul}
+use native.Mathlib.Omega.{arith}
+use lib.Arith.{digits-lt}
+use lib.Dec.{leb, ltb}
+use lib.IntN.{ℤ, pos, negsuc, negℤ}
+use lib.ListN.{length}
+use borrow.Author.Tests.{lt-ltb, le-ltb, leb-true, le-leb, not-true}
+use Rattle.rules.specs.Tests.{every}
+use Rattle.rules.specs.Surface.{rect, covers, slots, byte, idOf, rectOf, spareZero, usedSlot, freeSlot, holds, occupied, holder, upwards, remaining, weight, cell, soundSlot, slotsSound, Standing}
+use Rattle.rules.specs.declared.Rect.{Rect}
+use Rattle.rules.proofs.Tests.{and-left, and-right, and-both, four-and, or-which, not-both, every-at, any-yes}
+use Rattle.meaning.proofs.Weights.{upwards-le, Within, covers-within, holds-covers, holds-used, holder-low, holder-holds, weight-occupied, weight-empty, stands-cell, stands-slots}
+use Rattle.cells.specs.Weight.{takenZ, countOf, widthOf}
+use Rattle.listing.specs.Row.{rows}
+use Rattle.listing.specs.Listed.{heightOf, support, entriesIn, Strides}
+use Rattle.listing.proofs.Stairs.{cmp}
+use Rattle.listing.proofs.Walks.{written-le}
+
+-- an occupied cell counts nothing
+pub upwards-none : (occ : ℕ → ℕ → Bool) (x y : ℕ) → occ x y ≡ true → upwards occ x y ≡ 0
+unfolding upwards
+upwards-none occ x zero e = rw e
+upwards-none occ x (suc y) e = rw e
+
+-- ---- heights and support of a row
+
+module _ (occ : ℕ → ℕ → Bool) (W y x : ℕ) where
+  pub height-in : x < W → heightOf occ W y x ≡ upwards occ x y
+  unfolding heightOf
+  height-in p = rw (lt-ltb x W p)
+
+  pub height-past : W ≤ x → heightOf occ W y x ≡ 0
+  unfolding heightOf
+  height-past p = rw (le-ltb x W p)
+
+  -- a height stands in a column
+  pub height-column : (heightOf occ W y x ≡ 0 → ⊥) → x < W
+  height-column n = ⊎-elim (λ (p : x < W). p) (λ (p : W ≤ x). absurd (n (height-past p))) (cmp x W)
+
+  pub height-taken : occ x y ≡ true → heightOf occ W y x ≡ 0
+  height-taken e = ⊎-elim (λ (p : x < W). height-in p ∙ upwards-none occ x y e) (λ (p : W ≤ x). height-past p) (cmp x W)
+
+  -- no height, no support
+  pub unheld : (H : ℕ) → heightOf occ W y x ≡ 0 → support occ W H y x ≡ false
+  unfolding support
+  unheld H e = rw (e, le-ltb 0 0 (le-refl 0))
+
+  pub held-by : (H : ℕ) → (heightOf occ W y x ≡ 0 → ⊥) → support occ W H y x ≡ cond (ltb (suc y) H) (occ x (suc y)) true
+  unfolding support
+  held-by H n = rw (lt-ltb 0 (heightOf occ W y x) (pos-of (heightOf occ W y x) n))
+    where
+      pos-of : (v : ℕ) → (v ≡ 0 → ⊥) → 0 < v
+      pos-of zero n = absurd (n refl)
+      pos-of (suc v) n = omega arith
+
+module _ (W H : ℕ) (s : List ℤ) (t : List ℕ) (S : Standing W H s t) (x y : ℕ) (px : x < W) (py : y < H) where
+  -- the cell's number
+  pub number-in : (y * W + x < length s) × (y * W + x < 64 * 64)
+  number-in = let d = digits-lt py px in (omega (arith, mul-comm W H, S .long), omega (arith, mul-comm W H, mul-le-mul (S .widest) (S .highest)))
+
+  is : cell W s x y ≡ weight t x y
+  is = stands-cell W H s t (S .sound) x y px py
+
+  pub taken-is : takenZ (cell W s x y) ≡ occupied t x y
+  taken-is = go (occupied t x y) refl
+    where
+      go : (b : Bool) → occupied t x y ≡ b → takenZ (cell W s x y) ≡ b
+      go true e = ap takenZ (is ∙ weight-occupied t x y e .1)
+      go false e = ap takenZ (is ∙ weight-empty t x y e)
+
+  pub count-is : countOf (cell W s x y) ≡ heightOf (occupied t) W y x
+  count-is = go (occupied t x y) refl ∙ sym (height-in (occupied t) W y x px)
+    where
+      go : (b : Bool) → occupied t x y ≡ b → countOf (cell W s x y) ≡ upwards (occupied t) x y
+      go true e = ap countOf (is ∙ weight-occupied t x y e .1) ∙ sym (upwards-none (occupied t) x y e)
+      go false e = ap countOf (is ∙ weight-empty t x y e)
+
+  pub count-low : countOf (cell W s x y) ≤ 64
+  count-low = omega (arith, count-is, height-in (occupied t) W y x px, upwards-le (occupied t) x y, S .highest)
+
+  -- the holder's module, on the surface
+  module _ (e : occupied t x y ≡ true) where
+    abbrev i : ℕ
+    i = holder t x y
+
+    abbrev r : Rect
+    r = rectOf t i
+
+    in-module : Within r x y
+    in-module = covers-within r x y (holds-covers t x y i (holder-holds t x y e))
+
+    on-surface : r .x + r .w ≤ W
+    unfolding slotsSound soundSlot
+    on-surface =
+        let sound = every-at (slots t) (λ i. freeSlot t i || soundSlot W H t i) (stands-slots W H s t (S .sound)) i (holder-low t x y e) in
+        let used = holds-used t x y i (holder-holds t x y e) in
+        ⊎-elim
+        (λ (f : freeSlot t i ≡ true). not-both (freeSlot t i) f (not-true _ used))
+        (λ (g : soundSlot W H t i ≡ true).
+        let g1 = and-left (leb 1 (idOf t i) && leb 1 (r .w) && leb 1 (r .h) && leb (r .x + r .w) W && leb (r .y + r .h) H) (spareZero t i) g in
+        let g2 = and-left (leb 1 (idOf t i) && leb 1 (r .w) && leb 1 (r .h) && leb (r .x + r .w) W) (leb (r .y + r .h) H) g1 in
+        leb-true _ _ (and-right (leb 1 (idOf t i) && leb 1 (r .w) && leb 1 (r .h)) (leb (r .x + r .w) W) g2))
+        (or-which (freeSlot t i) (soundSlot W H t i) sound)
+
+    width-is : widthOf (cell W s x y) ≡ r .x + r .w - x
+    unfolding weight remaining
+    width-is = ap widthOf is ∙ rw e (width-neg (r .x + r .w - x) (omega (arith, in-module .right)))
+      where
+        width-neg : (n : ℕ) → 1 ≤ n → widthOf (negℤ (pos n)) ≡ n
+        width-neg zero h = absurd (omega arith)
+        width-neg (suc n) h = refl
+
+    along : (k : ℕ) → x ≤ k → k < r .x + r .w → occupied t k y ≡ true
+    unfolding occupied holds covers
+    along k p q =
+        any-yes (slots t) (holds t k y) i (holder-low t x y e)
+        (and-both (holds-used t x y i (holder-holds t x y e))
+        (four-and (le-leb (r .x) k (omega (arith, in-module .left))) (lt-ltb _ _ q) (le-leb _ _ (in-module .top)) (lt-ltb _ _ (in-module .bottom))))
+
+    -- THE WEIGHT OF AN OCCUPIED CELL GOES OVER OCCUPIED CELLS ALONE
+    pub width-strides : (d : ℕ) → d ≡ widthOf (cell W s x y) → Strides (occupied t) W y x d
+    width-strides d q =
+        let n : d ≡ r .x + r .w - x = q ∙ width-is in
+        record {
+          one = omega (arith, in-module .right);
+          inside = omega (arith, on-surface, in-module .right);
+          over = λ _ k a b. along k a (omega (arith, in-module .right));
+        }
+
+pub one-stride : (occ : ℕ → ℕ → Bool) (W y x : ℕ) → x ≤ W → Strides occ W y x 1
+one-stride occ W y x h = record { one = le-refl 1; inside = omega arith; over = λ p. absurd (omega arith) }
+
+-- a row's buffers hold no more than W entries
+pub row-few : (occ : ℕ → ℕ → Bool) (W H y : ℕ) (ls rs es : List ℕ) (m : ℕ) → rows ls rs es m ≡ entriesIn occ W H y → m ≤ W
+unfolding entriesIn
+row-few occ W H y ls rs es m q = written-le (heightOf occ W y) (support occ W H y) W ls rs es m q

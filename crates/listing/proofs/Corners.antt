@@ -1,0 +1,146 @@
+-- Corners of a scanned row by its heights: a cell is a corner exactly when the next height is smaller. Assumes nothing.
+use mathlib.Core.Path.{_≡_, refl, sym, ap, ap₂, _∙_, subst}
+use mathlib.Core.Bool.{Bool, true, false, not, cond, _&&_, _||_}
+use mathlib.Core.Logic.{_⊎_, inl, inr, ⊎-elim}
+use mathlib.Core.List.{List}
+use Prim.Native.Nat.{ℕ, zero, suc, _+_, _-_, _≤_, _<_}
+use native.Mathlib.Nat.{le-refl, eq-or-lt-of-le}
+use native.Mathlib.Omega.{arith}
+use lib.Dec.{ltb, eqb}
+use lib.IntN.{pos, negsuc}
+use lib.Signed.{ltZ}
+use borrow.Author.Tests.{lt-ltb, le-ltb, eq-eqb, ne-eqb}
+use Rattle.rules.specs.Tests.{total, count}
+use Rattle.rules.specs.Surface.{occupied, upwards, weight}
+use Rattle.rules.specs.Empties.{scanned, corner}
+use Rattle.rules.proofs.Tests.{total-same}
+use Rattle.meaning.proofs.Weights.{weight-occupied, weight-empty, upwards-pos}
+use Rattle.listing.specs.Row.{before}
+use Rattle.listing.specs.Listed.{heightOf}
+use Rattle.listing.proofs.Stairs.{cmp}
+use Rattle.listing.proofs.Cells.{height-in, height-past, height-taken}
+
+-- ---- a cell of a scanned row
+
+module _ (W H : ℕ) (t : List ℕ) (y : ℕ) (s : scanned H t y ≡ true) where
+  abbrev f : ℕ → ℕ
+  f = heightOf (occupied t) W y
+
+  -- the height of an empty cell
+  high : (x : ℕ) → x < W → occupied t x y ≡ false → 0 < f x
+  high x p e = rw (height-in (occupied t) W y x p) (upwards-pos t x y e)
+
+  -- the right neighbour
+  neighbour : (x : ℕ) → suc x < W → occupied t x y ≡ false → ltZ (weight t (suc x) y) (weight t x y) ≡ ltb (f (suc x)) (f x)
+  neighbour x p e = go (occupied t (suc x) y) refl
+    where
+      go : (b : Bool) → occupied t (suc x) y ≡ b → ltZ (weight t (suc x) y) (weight t x y) ≡ ltb (f (suc x)) (f x)
+      go true q =
+          ap₂ ltZ (weight-occupied t (suc x) y q .1) (weight-empty t x y e)
+          ∙ sym (lt-ltb (f (suc x)) (f x) (omega (arith, height-taken (occupied t) W y (suc x) q, high x (omega arith) e)))
+      go false q =
+          ap₂ ltZ (weight-empty t (suc x) y q) (weight-empty t x y e)
+          ∙ ap₂ ltb (sym (height-in (occupied t) W y (suc x) p)) (sym (height-in (occupied t) W y x (omega arith)))
+
+  -- A CELL IS A CORNER EXACTLY WHEN THE NEXT HEIGHT IS SMALLER
+  pub corner-is : (x : ℕ) → x < W → corner W H t x y ≡ ltb (f (suc x)) (f x)
+  unfolding corner
+  corner-is x p = go (occupied t x y) refl
+    where
+      go : (b : Bool) → occupied t x y ≡ b → (not (occupied t x y) && scanned H t y && (eqb (suc x) W || ltZ (weight t (suc x) y) (weight t x y))) ≡ ltb (f (suc x)) (f x)
+      go true e = rw e (sym (le-ltb (f (suc x)) (f x) (omega (arith, height-taken (occupied t) W y x e))))
+      go false e =
+          ⊎-elim
+          (λ (q : suc x ≡ W). rw (e, s, eq-eqb (suc x) W q) (sym (lt-ltb (f (suc x)) (f x) (omega (arith, height-past (occupied t) W y (suc x) (omega arith), high x p e)))))
+          (λ (q : suc x < W). rw (e, s, ne-eqb (suc x) W (λ z. omega arith)) (neighbour x q e))
+          (eq-or-lt-of-le p)
+
+-- ---- the walk: how many heights among the first x are smaller than the one before
+
+unfoldable pub turns : (ℕ → ℕ) → ℕ → ℕ
+turns f zero = 0
+turns f (suc x) = turns f x + cond (ltb (f x) (before f x)) 1 0
+
+pub turns-le : (f : ℕ → ℕ) (x : ℕ) → turns f x ≤ x
+unfolding turns
+turns-le f zero = le-refl 0
+turns-le f (suc x) = go (ltb (f x) (before f x)) (turns-le f x)
+  where
+    go : (b : Bool) → turns f x ≤ x → turns f x + cond b 1 0 ≤ suc x
+    go true h = omega arith
+    go false h = omega arith
+
+turns-count : (f : ℕ → ℕ) (w : ℕ) → turns f (suc w) ≡ count w (λ x. ltb (f (suc x)) (f x))
+unfolding turns total before
+turns-count f zero = rw (le-ltb (f 0) 0 (omega arith))
+turns-count f (suc w) = ap (λ n. n + cond (ltb (f (suc w)) (f w)) 1 0) (turns-count f w)
+
+pub record Turned (f : ℕ → ℕ) (w n u x : ℕ) : Type 0 where
+  pub upto : x ≤ w + 1
+  pub number : n ≡ turns f x
+  pub last : u ≡ before f x
+
+pub turn-start : (f : ℕ → ℕ) (w : ℕ) → Turned f w 0 0 0
+unfolding turns before
+turn-start f w = record { upto = omega arith; number = refl; last = refl }
+
+-- over cells without a height nothing turns
+still : (f : ℕ → ℕ) (x j : ℕ) → ((k : ℕ) → x ≤ k → k < x + suc j → f k ≡ 0) → (turns f (x + suc j) ≡ turns f (suc x)) × (before f (x + suc j) ≡ f x)
+unfolding turns before
+still f x zero h = let e : x + suc zero ≡ suc x = omega arith in (ap (turns f) e, ap (before f) e)
+still f x (suc j) h =
+    let e : x + suc (suc j) ≡ suc (x + suc j) = omega arith in
+    let r = still f x j (λ k p q. h k p (omega arith)) in
+    let first : f x ≡ 0 = h x (le-refl x) (omega arith) in
+    let here : f (x + suc j) ≡ 0 = h (x + suc j) (omega arith) (omega arith) in
+    let none : ltb (f (x + suc j)) (before f (x + suc j)) ≡ false = le-ltb (f (x + suc j)) (before f (x + suc j)) (omega (arith, r .1)) in
+    let step : turns f (x + suc j) + cond (ltb (f (x + suc j)) (before f (x + suc j))) 1 0 ≡ turns f (x + suc j) = ap (λ b. turns f (x + suc j) + cond b 1 0) none ∙ omega arith in
+    (ap (turns f) e ∙ step ∙ r .0, ap (before f) e ∙ here ∙ sym first)
+
+pub turn-more : (f : ℕ → ℕ) (w n u x v k d : ℕ) → Turned f w n u x → v ≡ f x → k ≡ cond (ltb v u) 1 0
+    → 1 ≤ d → x + d ≤ w + 1 → (1 < d → (j : ℕ) → x ≤ j → j < x + d → f j ≡ 0) → Turned f w (n + k) v (x + d)
+unfolding turns before
+turn-more f w n u x v k d i ev ek one inside over =
+    let one-more : n + k ≡ turns f (suc x) = rw (ek, ev, i .last, i .number) in
+    ⊎-elim
+    (λ (p : 1 < d).
+    let q : x + suc (d - 1) ≡ x + d = omega arith in
+    let r = still f x (d - 1) (λ j a b. over p j a (omega arith)) in
+    record { upto = inside; number = one-more ∙ sym (r .0) ∙ ap (turns f) q; last = ev ∙ sym (r .1) ∙ ap (before f) q })
+    (λ (p : d ≤ 1).
+    let q : suc x ≡ x + d = omega arith in
+    record { upto = inside; number = one-more ∙ ap (turns f) q; last = ev ∙ ap (before f) q })
+    (cmp 1 d)
+
+-- past the last column every corner is counted
+pub turn-end : (W H : ℕ) (t : List ℕ) (y n u x : ℕ) → scanned H t y ≡ true → Turned (heightOf (occupied t) W y) W n u x → W < x → n ≡ count W (λ x. corner W H t x y)
+turn-end W H t y n u x s i h =
+    let q : x ≡ suc W = omega (arith, i .upto) in
+    i .number ∙ ap (turns (heightOf (occupied t) W y)) q ∙ turns-count (heightOf (occupied t) W y) W
+    ∙ total-same W _ _ (λ k p. ap (λ b. cond b 1 0) (sym (corner-is W H t y s k p)))
+
+pub one-or-none : (b : Bool) → cond b 1 0 ≤ 1
+one-or-none true = le-refl 1
+one-or-none false = omega arith
+
+count-none : (n : ℕ) (p : ℕ → Bool) → ((k : ℕ) → p k ≡ false) → count n p ≡ 0
+unfolding total
+count-none zero p h = refl
+count-none (suc n) p h = rw (h n, count-none n p h)
+
+-- A ROW THAT IS NOT SCANNED HAS NO CORNER
+pub no-corner : (W H : ℕ) (t : List ℕ) (y : ℕ) → scanned H t y ≡ false → count W (λ x. corner W H t x y) ≡ 0
+unfolding corner
+no-corner W H t y s =
+    count-none W (λ x. corner W H t x y)
+    (λ x. rw s (both (not (occupied t x y)) (eqb (suc x) W || ltZ (weight t (suc x) y) (weight t x y))))
+  where
+    both : (a b : Bool) → (a && false && b) ≡ false
+    both true b = refl
+    both false b = refl
+
+-- at most one for each column
+pub count-le : (n : ℕ) (p : ℕ → Bool) → count n p ≤ n
+unfolding total
+count-le zero p = le-refl 0
+count-le (suc n) p = omega (arith, count-le n p, one-or-none (p n))

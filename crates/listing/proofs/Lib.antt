@@ -1,0 +1,16 @@
+-- Laws on plain values.
+-- `Stairs`: the law of a step, the law of the entries, how many there are. `Spans`: what the code's lists hold. `Turns`: the invariant of `emit`, and
+-- `push`. `Walks`: the invariant of `walk`. `Meaning`: a row's list has exactly the entries, in order. `Plane`: maximal rectangles are entries of their
+-- bottom rows. `List`: the list of a surface is its rows' entries one behind the other.
+pub mod Stairs
+pub mod Spans
+pub mod Turns
+pub mod Walks
+pub mod Meaning
+pub mod Plane
+pub mod List
+pub mod Cells
+pub mod Corners
+pub mod Scanned
+pub mod Written
+pub mod Counted
