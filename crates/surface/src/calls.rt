@@ -100,7 +100,7 @@ fn fill_row(s: &mut [i16], at: usize, n: usize, v: usize)
 }
 
 // "gives cell (x, y) weight y + 1"
-fn clear_weights(w: usize, h: usize, s: &mut [i16])
+pub fn clear_weights(w: usize, h: usize, s: &mut [i16])
     requires { ⌜ (w ≤ 64) × (h ≤ 64) × (length (now s) ≡ w * h) ⌝ }
     ensures { λ _. ⌜ now (s .exit) ≡ clearedWeights w h ⌝ }
 {

@@ -1,0 +1,143 @@
+-- Laws of the calls on bytes: what code 0 says, and each way out. Assumes nothing.
+use mathlib.Core.Path.{_≡_, refl, sym, ap, _∙_, subst}
+use mathlib.Core.Bool.{Bool, true, false, not, cond}
+use mathlib.Core.List.{List, [], _∷_, _++_, append-assoc}
+use Prim.Native.Nat.{ℕ, zero, suc, _+_, _*_, _/_, _≤_, _<_}
+use native.Mathlib.Omega.{arith}
+use borrow.Author.Tests.{eqb-true, eq-eqb, ne-eqb, not-false}
+use lib.Dec.{eqb}
+use lib.IntN.{ℤ}
+use lib.ListN.{length}
+use Rattle.rules.specs.Judging.{Line, _when_, first}
+use Rattle.rules.specs.Surface.{slots, stands, Standing, usedSlots}
+use Rattle.rules.specs.Empties.{corners}
+use Rattle.rules.specs.Calls.{sizeLines, standLines, clearLines, clearCode, clearWith, clearedWeights, clearedTable, entriesOf, shortRoom, roomAfter, resultOf, listLines, listCode, listWith}
+use Rattle.rules.specs.Host.{badBytes, weightsOf, bytesOf, hostClear, hostCheck, hostList}
+use Rattle.meaning.proofs.Lowest.{first-stop}
+use Rattle.surface.specs.Outcome.{Sized}
+use Rattle.surface.proofs.CallLaws.{Good, good, area, sizes-over, check-refused, check-fallen, check-done}
+use Rattle.listing.specs.Listed.{listedResult, listedRoom}
+use Rattle.codec.proofs.Laws.{length-weightsOf}
+use Rattle.calls.specs.Promise.{Lent, HostClearedBy, HostListedBy}
+
+module _ (W H : ℕ) (b t : List ℕ) where
+  abbrev sizes : List Line
+  sizes = sizeLines (badBytes W H b) W H (length t)
+
+  module _ (l : Lent W H b t) where
+    lent-good : Good (badBytes W H b) W H (length t)
+    lent-good = good (badBytes W H b) W H (length t) (l .right)
+
+    pub lent-long : length b ≡ 2 * (W * H)
+    lent-long = eqb-true (length b) (2 * (W * H)) (not-false _ (lent-good .fits))
+
+    pub lent-area : W * H ≤ 4096
+    lent-area = area W H (lent-good .widest) (lent-good .highest)
+
+    pub lent-sides : (W ≤ 64) × (H ≤ 64)
+    lent-sides = (lent-good .widest, lent-good .highest)
+
+    pub lent-sized : Sized W H (weightsOf b) t
+    lent-sized =
+        let g = lent-good in
+        record {
+          wide = g .wide;
+          widest = g .widest;
+          high = g .high;
+          highest = g .highest;
+          long = length-weightsOf b ∙ (let q : length b / 2 ≡ W * H = omega (arith, lent-long) in q);
+          whole = g .whole;
+          some = g .some;
+          few = g .few;
+        }
+
+    pub lent-standing : (s : List ℤ) → s ≡ weightsOf b → stands W H s t ≡ true → Standing W H s t
+    lent-standing s e q =
+        let z = lent-sized in
+        record {
+          wide = z .wide;
+          widest = z .widest;
+          high = z .high;
+          highest = z .highest;
+          long = ap length e ∙ z .long;
+          whole = z .whole;
+          some = z .some;
+          few = z .few;
+          sound = q;
+        }
+
+  -- two bytes to a cell
+  pub size-two : (r : ℕ) → r ≡ first (sizeLines (not (eqb (length b) (2 * (W * H)))) W H (length t)) → r ≡ first sizes
+  size-two r e = e
+
+  -- ---- clear
+
+  pub clear-refused : (r : ℕ) → r ≡ first sizes → (r ≡ 0 → ⊥) → HostClearedBy W H b t r b t
+  unfolding hostClear clearWith clearCode clearLines
+  clear-refused r e ne =
+      let q : eqb (first sizes) 0 ≡ false = ne-eqb (first sizes) 0 (λ z. ne (e ∙ z)) in
+      record { result = e ∙ (let k : first sizes ≡ resultOf (first sizes) 0 0 = omega arith in k); weights = rw q; table = rw q }
+
+  pub clear-done : Lent W H b t → (b′ t′ : List ℕ) → b′ ≡ bytesOf (clearedWeights W H) → t′ ≡ clearedTable t → HostClearedBy W H b t 0 b′ t′
+  unfolding hostClear clearWith clearCode clearLines
+  clear-done l b′ t′ p q =
+      let z : eqb (first sizes) 0 ≡ true = eq-eqb (first sizes) 0 (l .right) in
+      record { result = (let k : 0 ≡ resultOf (first sizes) 0 0 = omega (arith, l .right) in k); weights = rw z p; table = rw z q }
+
+  -- ---- check
+
+  pub checked-refused : (r : ℕ) → r ≡ first sizes → (r ≡ 0 → ⊥) → r ≡ hostCheck W H b t
+  unfolding hostCheck
+  checked-refused = check-refused (badBytes W H b) W H (weightsOf b) t
+
+  pub checked-fallen : Lent W H b t → stands W H (weightsOf b) t ≡ false → 6 ≡ hostCheck W H b t
+  unfolding hostCheck
+  checked-fallen l = check-fallen (badBytes W H b) W H (weightsOf b) t (l .right)
+
+  pub checked-done : Lent W H b t → stands W H (weightsOf b) t ≡ true → (u : ℕ) → u ≡ usedSlots t → 65536 * u ≡ hostCheck W H b t
+  unfolding hostCheck
+  checked-done l = check-done (badBytes W H b) W H (weightsOf b) t (l .right)
+
+  -- ---- list
+
+  module _ (room : List ℕ) where
+    abbrev rest : List Line
+    rest = standLines W H (weightsOf b) t ++ (7 when shortRoom W H t room ∷ [])
+
+    -- the code is the sizes', and then that of the rest
+    code-is : listCode (badBytes W H b) W H (weightsOf b) t room ≡ first (sizes ++ rest)
+    unfolding listCode listLines
+    code-is = ap first (append-assoc sizes (standLines W H (weightsOf b) t) (7 when shortRoom W H t room ∷ []))
+
+    refused : (c : ℕ) → listCode (badBytes W H b) W H (weightsOf b) t room ≡ c → 1 ≤ c → HostListedBy W H b t room c room
+    unfolding hostList listWith
+    refused c e h =
+        let q : eqb (listCode (badBytes W H b) W H (weightsOf b) t room) 0 ≡ false = ne-eqb (listCode (badBytes W H b) W H (weightsOf b) t room) 0 (λ z. omega arith) in
+        record { result = rw q (omega (arith, e)); written = rw q }
+
+    pub listed-refused : (r : ℕ) → r ≡ first sizes → (r ≡ 0 → ⊥) → HostListedBy W H b t room r room
+    listed-refused r e ne = refused r (code-is ∙ first-stop sizes rest (λ z. ne (e ∙ z)) ∙ sym e) (omega arith)
+
+    pub listed-fallen : Lent W H b t → stands W H (weightsOf b) t ≡ false → HostListedBy W H b t room 6 room
+    unfolding first
+    listed-fallen l q = refused 6 (code-is ∙ sizes-over (badBytes W H b) W H (length t) rest (l .right) ∙ rw q) (omega arith)
+
+    pub listed-done : Lent W H b t → stands W H (weightsOf b) t ≡ true → (r : ℕ) (room′ : List ℕ) → r ≡ listedResult W H t room → room′ ≡ listedRoom W H t room → HostListedBy W H b t room r room′
+    unfolding first listedResult listedRoom
+    listed-done l q r room′ p o = go (shortRoom W H t room) refl
+      where
+        code : (c : Bool) → shortRoom W H t room ≡ c → listCode (badBytes W H b) W H (weightsOf b) t room ≡ cond c 7 0
+        code c e = code-is ∙ sizes-over (badBytes W H b) W H (length t) rest (l .right) ∙ rw (q, e)
+
+        go : (c : Bool) → shortRoom W H t room ≡ c → HostListedBy W H b t room r room′
+        go true e =
+            let a : r ≡ 7 = p ∙ rw e in
+            let d : room′ ≡ room = o ∙ rw e in
+            rw (a, d) (refused 7 (code true e) (omega arith))
+        go false e =
+            let z : eqb (listCode (badBytes W H b) W H (weightsOf b) t room) 0 ≡ true = eq-eqb (listCode (badBytes W H b) W H (weightsOf b) t room) 0 (code false e) in
+            done z (code false e) (p ∙ rw e) (o ∙ rw e)
+          where
+            done : eqb (listCode (badBytes W H b) W H (weightsOf b) t room) 0 ≡ true → listCode (badBytes W H b) W H (weightsOf b) t room ≡ 0
+                → r ≡ resultOf 0 (length (entriesOf W H t)) (corners W H t) → room′ ≡ roomAfter W H t room → HostListedBy W H b t room r room′
+            done z y a d = unfold hostList listWith in record { result = rw z (omega (arith, a, y)); written = rw z d }

@@ -1,0 +1,28 @@
+use mathlib.Core.Path.{_≡_, refl, sym, ap, _∙_}
+use Prim.Native.Nat.{_*_}
+use native.Mathlib.Omega.{arith}
+use borrow.Author.Needs.{needs}
+use Rattle.surface.proofs.CallLaws.{part}
+use Rattle.calls.proofs.clear_bytes.Statement.{statement}
+use Rattle.calls.proofs.clear_bytes.Tie as tie
+
+mul-n : tie.Need-mul-n
+mul-n c = search needs
+
+array-borrow-prefix-a : tie.Need-array-borrow-prefix-a
+array-borrow-prefix-a c = c .before .pre .2
+
+slice-aggregate-cleared-on : tie.Need-slice-aggregate-cleared-on
+slice-aggregate-cleared-on c = part _ _ 4096 (c .before .before .pre .2) refl
+
+cleared-on-requires : tie.Need-cleared-on-requires
+cleared-on-requires c κs = let p = c .before .before .before .pre in (p .0, p .1, sym (part _ _ 4096 (p .2) refl), p .3)
+
+same-length : tie.Need-same-length
+same-length c = search needs
+
+returns : tie.Need-returns
+returns c = c .before .before .before .cleared-on .ensures
+
+pub clear-bytes-spec : {M : Type 1} → statement M
+clear-bytes-spec = tie.close (tie.spec mul-n array-borrow-prefix-a slice-aggregate-cleared-on cleared-on-requires same-length returns)

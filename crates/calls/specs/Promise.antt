@@ -1,0 +1,22 @@
+-- What each exported call promises, for any numbers and any bytes: its result and every buffer lent for writing, each as an equation with the
+-- definition of the call on bytes (rules/specs/Host). Buffers lent for reading cannot change.
+use mathlib.Core.Path.{_≡_}
+use mathlib.Core.List.{List}
+use Prim.Native.Nat.{ℕ}
+use lib.ListN.{length}
+use Rattle.rules.specs.Judging.{first}
+use Rattle.rules.specs.Calls.{sizeLines}
+use Rattle.rules.specs.Host.{badBytes, hostClear, hostList}
+
+-- sizes and lengths are right: codes 1, 2 and 3 do not apply
+pub record Lent (W H : ℕ) (b t : List ℕ) : Type 0 where
+  pub right : first (sizeLines (badBytes W H b) W H (length t)) ≡ 0
+
+pub record HostClearedBy (W H : ℕ) (b t : List ℕ) (r : ℕ) (b′ t′ : List ℕ) : Type 0 where
+  pub result : r ≡ hostClear W H b t .result
+  pub weights : b′ ≡ hostClear W H b t .weights
+  pub table : t′ ≡ hostClear W H b t .table
+
+pub record HostListedBy (W H : ℕ) (b t room : List ℕ) (r : ℕ) (room′ : List ℕ) : Type 0 where
+  pub result : r ≡ hostList W H b t room .result
+  pub written : room′ ≡ hostList W H b t room .room

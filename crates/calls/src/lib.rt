@@ -1,0 +1,99 @@
+// What the C host calls: numbers, and lent bytes. The weights are decoded once a call, and encoded only where something was written.
+ghost use mathlib.Core.Path.{_≡_};
+ghost use Prim.Native.Nat.{ℕ, _+_, _*_, _≤_, _<_};
+ghost use lib.ListN.{length};
+ghost use Rattle.rules.specs.Calls.{clearedWeights};
+ghost use Rattle.rules.specs.Host.{bytesOf, hostCheck};
+ghost use Rattle.calls.specs.Promise.{Lent, HostClearedBy, HostListedBy};
+use surface::calls::clear_weights;
+use surface::calls::free_slots;
+use surface::calls::stands;
+use surface::sizes::size_code;
+use surface::slots::used_slots;
+
+fn cleared_on(w: usize, h: usize, a: &mut [i16], b: &mut [u8])
+    requires { ⌜ (w ≤ 64) × (h ≤ 64) × (length (now a) ≡ w * h) × (length (now b) ≡ 2 * (w * h)) ⌝ }
+    ensures { λ _. ⌜ now (b .exit) ≡ bytesOf (clearedWeights w h) ⌝ }
+{
+    clear_weights(w, h, a);
+    codec::encode(a, b);
+}
+
+fn clear_bytes(w: usize, h: usize, b: &mut [u8])
+    requires { ⌜ (w ≤ 64) × (h ≤ 64) × (w * h ≤ 4096) × (length (now b) ≡ 2 * (w * h)) ⌝ }
+    ensures { λ _. ⌜ now (b .exit) ≡ bytesOf (clearedWeights w h) ⌝ }
+{
+    let n = w * h;
+    let mut a = [0i16; 4096];
+    cleared_on(w, h, &mut a[..n], b);
+}
+
+// clear: frees all slots and gives cell (x, y) weight y + 1. Codes 1, 2, 3.
+#[no_mangle]
+pub extern "C" fn freelist_clear(w: usize, h: usize, weights: &mut [u8], table: &mut [u8]) -> u64
+    ensures { λ r. ⌜ HostClearedBy w h (now (weights .entry)) (now (table .entry)) r (now (weights .exit)) (now (table .exit)) ⌝ }
+{
+    let code = size_code(w, h, weights.len(), 2, table.len());
+    if code != 0 {
+        return code;
+    }
+    clear_bytes(w, h, weights);
+    free_slots(table);
+    0
+}
+
+fn checked_on(w: usize, h: usize, b: &[u8], t: &[u8], a: &mut [i16]) -> u64
+    requires { ⌜ Lent w h (now b) (now t) × (length (now a) ≡ w * h) ⌝ }
+    ensures { λ r. ⌜ r ≡ hostCheck w h (now (b .entry)) (now (t .entry)) ⌝ }
+{
+    codec::decode(b, a);
+    if !stands(w, h, a, t) {
+        return 6;
+    }
+    65536 * (used_slots(t) as u64)
+}
+
+// check: whether the surface stands; counts the used slots. Codes 1, 2, 3, 6.
+#[no_mangle]
+pub extern "C" fn freelist_check(w: usize, h: usize, weights: &[u8], table: &[u8]) -> u64
+    ensures { λ r. ⌜ r ≡ hostCheck w h (now (weights .entry)) (now (table .entry)) ⌝ }
+{
+    let code = size_code(w, h, weights.len(), 2, table.len());
+    if code != 0 {
+        return code;
+    }
+    let n = w * h;
+    let mut a = [0i16; 4096];
+    checked_on(w, h, weights, table, &mut a[..n])
+}
+
+fn listed_on(w: usize, h: usize, b: &[u8], t: &[u8], room: &mut [u8], a: &mut [i16]) -> u64
+    requires { ⌜ Lent w h (now b) (now t) × (length (now a) ≡ w * h) ⌝ }
+    ensures { λ r. ⌜ HostListedBy w h (now (b .entry)) (now (t .entry)) (now (room .entry)) r (now (room .exit)) ⌝ }
+{
+    codec::decode(b, a);
+    if !stands(w, h, a, t) {
+        return 6;
+    }
+    listing::list_standing(w, h, a, t, room)
+}
+
+// list: the maximal empty rectangles, in order; counts entries and corners. Codes 1, 2, 3, 6, 7.
+#[no_mangle]
+pub extern "C" fn freelist_list(
+    w: usize,
+    h: usize,
+    weights: &[u8],
+    table: &[u8],
+    room: &mut [u8],
+) -> u64
+    ensures { λ r. ⌜ HostListedBy w h (now (weights .entry)) (now (table .entry)) (now (room .entry)) r (now (room .exit)) ⌝ }
+{
+    let code = size_code(w, h, weights.len(), 2, table.len());
+    if code != 0 {
+        return code;
+    }
+    let n = w * h;
+    let mut a = [0i16; 4096];
+    listed_on(w, h, weights, table, room, &mut a[..n])
+}
