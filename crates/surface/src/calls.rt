@@ -128,9 +128,9 @@ pub fn free_slots(t: &mut [u8])
 pub fn clear(w: usize, h: usize, s: &mut [i16], t: &mut [u8]) -> u64
     ensures { λ r. ⌜ ClearedBy w h (now (s .entry)) (now (t .entry)) r (now (s .exit)) (now (t .exit)) ⌝ }
 {
-    let code = size_code(w, h, s.len(), 1, t.len());
-    if code != 0 {
-        return code;
+    let refusal = size_code(w, h, s.len(), 1, t.len());
+    if refusal != 0 {
+        return refusal;
     }
     clear_weights(w, h, s);
     free_slots(t);
