@@ -1,3 +1,4 @@
 -- Laws of the calls on bytes.
 pub mod Laws
+pub mod RunLaws
 pub mod Unique

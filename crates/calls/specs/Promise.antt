@@ -1,21 +1,33 @@
 -- What each exported call promises, for any numbers and any bytes: its result and every buffer lent for writing, each as an equation with the
 -- definition of the call on bytes (rules/specs/Host). Buffers lent for reading cannot change.
 use mathlib.Core.Path.{_≡_}
-use mathlib.Core.List.{List}
+use mathlib.Core.Bool.{not}
+use mathlib.Core.List.{List, [], _∷_}
 use Prim.Native.Nat.{ℕ}
+use lib.Dec.{eqb}
 use lib.ListN.{length}
-use Rattle.rules.specs.Judging.{first}
-use Rattle.rules.specs.Calls.{sizeLines}
-use Rattle.rules.specs.Host.{badBytes, hostClear, hostList}
+use Rattle.rules.specs.Judging.{Line, _when_, first}
+use Rattle.rules.specs.Calls.{badBlock, sizeLines}
+use Rattle.rules.specs.Host.{badBytes, hostClear, hostRun, hostList}
 
 -- sizes and lengths are right: codes 1, 2 and 3 do not apply
 pub record Lent (W H : ℕ) (b t : List ℕ) : Type 0 where
   pub right : first (sizeLines (badBytes W H b) W H (length t)) ≡ 0
 
+-- 4 and 5, by the lengths of block and answers
+abbrev pub blockLines : ℕ → ℕ → List Line
+blockLines nq na = 4 when badBlock nq ∷ 5 when not (eqb na nq) ∷ []
+
 pub record HostClearedBy (W H : ℕ) (b t : List ℕ) (r : ℕ) (b′ t′ : List ℕ) : Type 0 where
   pub result : r ≡ hostClear W H b t .result
   pub weights : b′ ≡ hostClear W H b t .weights
   pub table : t′ ≡ hostClear W H b t .table
+
+pub record HostRanBy (W H : ℕ) (b t q a : List ℕ) (r : ℕ) (b′ t′ a′ : List ℕ) : Type 0 where
+  pub result : r ≡ hostRun W H b t q a .result
+  pub weights : b′ ≡ hostRun W H b t q a .weights
+  pub table : t′ ≡ hostRun W H b t q a .table
+  pub answers : a′ ≡ hostRun W H b t q a .answers
 
 pub record HostListedBy (W H : ℕ) (b t room : List ℕ) (r : ℕ) (room′ : List ℕ) : Type 0 where
   pub result : r ≡ hostList W H b t room .result
