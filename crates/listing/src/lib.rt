@@ -5,12 +5,12 @@ ghost use mathlib.Core.List.{_++_, map};
 ghost use Prim.Native.Nat.{ℕ, suc, _+_, _-_, _*_, _≤_, _<_};
 ghost use lib.ListN.{length, getD};
 ghost use lib.Dec.{ltb};
-ghost use Rattle.rules.specs.Tests.{count, total};
+ghost use Rattle.rules.specs.Tests.{count};
 ghost use Rattle.rules.specs.Surface.{Standing, occupied, slots};
 ghost use Rattle.rules.specs.Empties.{scanned, corner, corners, entries, entryRecord, entryRecords};
 ghost use Rattle.rules.specs.Calls.{roomAfter};
 ghost use Rattle.listing.specs.Row.{entry, entryAt, stairAt, stack, rows, span, pushed, leaving, Rises, CutAt, Rest};
-ghost use Rattle.listing.specs.Listed.{heightOf, support, entryRect, entriesIn, rectsIn, listed, Strides, Scans, Unmarked, Marks, written, Drawn, recordsIn, listedResult, listedRoom};
+ghost use Rattle.listing.specs.Listed.{heightOf, support, entryRect, entriesIn, rectsIn, Strides, Scans, Unmarked, Marks, written, Drawn, recordsIn, listedResult, listedRoom};
 
 // The height over column x of row y: the count of an empty cell, 0 for an occupied one and past the last column.
 fn height_at(w: usize, h: usize, weights: &[i16], table: &[u8], y: usize, x: usize) -> u8
@@ -241,12 +241,12 @@ pub fn row_corners(w: usize, h: usize, weights: &[i16], table: &[u8], y: usize) 
 {
     let mut n = 0;
     let mut u = 0u8;
-    let mut x = 0;
-    while x <= w {
-        let v = height_at(w, h, weights, table, y, x);
+    let mut c = 0;
+    while c <= w {
+        let v = height_at(w, h, weights, table, y, c);
         n += turn(u, v);
         u = v;
-        x += stride(w, h, weights, table, y, x);
+        c += stride(w, h, weights, table, y, c);
     }
     n
 }

@@ -70,10 +70,10 @@ write-list-requires c κs =
     (p .0, (m .scanned-rows .ensures, ((omega (arith, l .0, p .1 .1), omega (arith, l .1 .0, p .1 .2), omega (arith, l .1 .1 .0, p .1 .3)), omega (arith, k .count-list .ensures .0, enough c .if1 .left))))
 
 mul-result : tie.Need-mul-result
-mul-result c = omega (arith, low (counted (enough (listed c .before) .before)) .0)
+mul-result c = let b = low (counted (enough (listed c .before) .before)) in omega (arith, b .0, b .1)
 
 mul-result-2 : tie.Need-mul-result-2
-mul-result-2 c = omega (arith, low (counted (enough (listed c .before) .before)) .1)
+mul-result-2 c = let b = low (counted (enough (listed c .before) .before)) in omega (arith, b .0, b .1)
 
 add-result : tie.Need-add-result
 add-result c = let b = low (counted (enough (listed c .before) .before)) in omega (arith, b .0, b .1)

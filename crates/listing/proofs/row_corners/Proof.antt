@@ -11,10 +11,14 @@ use Rattle.listing.proofs.row_corners.Statement.{statement}
 use Rattle.listing.proofs.row_corners.Tie as tie
 
 abbrev Inv-loop : tie.InvT-loop
-Inv-loop w h weights table y n₀ u₀ x₀ n u x = Turned (heightOf (occupied table) w y) w n u x
+Inv-loop w h weights table y n₀ u₀ c₀ n u c = Turned (heightOf (occupied table) w y) w n u c
 
 abbrev μ-loop : tie.MeasureT-loop
-μ-loop w h weights table y n₀ u₀ x₀ n u x = w + 1 - x
+μ-loop w h weights table y n₀ u₀ c₀ n u c = w + 1 - c
+
+-- c is a column, or just past the last
+seen : (c : tie.In-loop Inv-loop μ-loop) → c .before .loop .c ≤ c .before .before .before .args .w
+seen c = omega (arith, c .loop-test .taken)
 
 loop-holds : tie.Need-loop-holds Inv-loop μ-loop
 loop-holds c = turn-start _ _
@@ -26,25 +30,25 @@ turn-requires : tie.Need-turn-requires Inv-loop μ-loop
 turn-requires c κs = search needs
 
 -- at most one corner for each column seen
-few : (c : tie.After-turn Inv-loop μ-loop) → let l = c .before .before .before .loop in (l .n ≤ l .x) × (c .turn .result ≤ 1)
+few : (c : tie.After-turn Inv-loop μ-loop) → let l = c .before .before .before .loop in (l .n ≤ l .c) × (c .turn .result ≤ 1)
 few c =
     let l = c .before .before .before .loop in
     let a = c .before .before .before .before .before .args in (
-      omega (arith, l .inv .number, turns-le (heightOf (occupied (a .table .now)) (a .w) (a .y)) (l .x)),
+      omega (arith, l .inv .number, turns-le (heightOf (occupied (a .table .now)) (a .w) (a .y)) (l .c)),
       omega (arith, c .turn .ensures, one-or-none (ltb (c .before .height-at .result) (l .u))),
     )
 
 add-n : tie.Need-add-n Inv-loop μ-loop
-add-n c = omega (arith, few c, c .before .before .loop-test .taken, c .before .before .before .before .before .pre .0 .widest)
+add-n c = omega (arith, few c, seen (c .before .before), c .before .before .before .before .before .pre .0 .widest)
 
 stride-requires : tie.Need-stride-requires Inv-loop μ-loop
-stride-requires c κs = let p = c .before .before .before .before .before .pre in (p .0, (p .1 .0, c .before .before .loop-test .taken))
+stride-requires c κs = let p = c .before .before .before .before .before .pre in (p .0, (p .1 .0, seen (c .before .before)))
 
-add-x : tie.Need-add-x Inv-loop μ-loop
-add-x c = omega (arith, c .stride .ensures .inside, c .before .before .before .before .before .before .pre .0 .widest)
+add-c : tie.Need-add-c Inv-loop μ-loop
+add-c c = omega (arith, c .stride .ensures .inside, c .before .before .before .before .before .before .pre .0 .widest)
 
 loop-less : tie.Need-loop-less Inv-loop μ-loop
-loop-less c = omega (arith, c .stride .ensures .inside, c .stride .ensures .one, c .before .before .before .loop-test .taken)
+loop-less c = omega (arith, c .stride .ensures .inside, c .stride .ensures .one, seen (c .before .before .before))
 
 loop-again : tie.Need-loop-again Inv-loop μ-loop
 loop-again c =
@@ -70,7 +74,7 @@ row-corners-spec =
     turn-requires
     add-n
     stride-requires
-    add-x
+    add-c
     loop-less
     loop-again
     returns)

@@ -55,7 +55,7 @@ slice-write-scans : tie.Need-slice-write-scans Inv-loop μ-loop
 slice-write-scans c = omega (arith, c .before .loop .inv .long, kept (c .before), start (c .before) .pre .1)
 
 same-length : tie.Need-same-length Inv-loop μ-loop
-same-length c = length-set (c .before .loop .scans) (start (c .before) .args .h - 1) 1 ∙ c .before .loop .inv .long ∙ kept (c .before)
+same-length c = length-set (c .before .loop .scans) (start (c .before) .args .h - 1) _ ∙ c .before .loop .inv .long ∙ kept (c .before)
 
 returns : tie.Need-returns Inv-loop μ-loop
 returns c =

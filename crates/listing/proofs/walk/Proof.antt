@@ -40,6 +40,10 @@ pushed-there c = c .before .before .before .before
 abbrev read-there : tie.After-slice-known10 Inv-loop μ-loop → tie.After-height-at Inv-loop μ-loop
 read-there c = read (cut-there (emitted (pushed-there c .before) .before))
 
+-- x is a column, or just past the last
+seen : (c : tie.In-loop Inv-loop μ-loop) → c .before .loop .x ≤ start (c .before) .args .w
+seen c = omega (arith, c .loop-test .taken)
+
 loop-holds : tie.Need-loop-holds Inv-loop μ-loop
 loop-holds c = walk-start _ _ _ _ _ _ _ _
 
@@ -50,12 +54,12 @@ cut-requires : tie.Need-cut-requires Inv-loop μ-loop
 cut-requires c κs =
     let at-loop = looped (c .before) in
     let w = at-loop .loop .inv in
-    (fits-sh w (c .before .before .loop-test .taken) (start at-loop .pre .1 .0 .2), rise w)
+    (fits-sh w (seen (c .before .before)) (start at-loop .pre .1 .0 .2), rise w)
 
 left-of-requires : tie.Need-left-of-requires Inv-loop μ-loop
 left-of-requires c κs =
     let at-at = read c in
-    omega (arith, at-at .before .loop-test .taken, start (looped at-at) .pre .0 .widest)
+    omega (arith, seen (at-at .before), start (looped at-at) .pre .0 .widest)
 
 emit-requires : tie.Need-emit-requires Inv-loop μ-loop
 emit-requires c κs =
@@ -63,14 +67,14 @@ emit-requires c κs =
     let at-at = read at-cut in
     let at-loop = looped at-at in
     let w = at-loop .loop .inv in
-    let h = at-at .before .loop-test .taken in
+    let h = seen (at-at .before) in
     let a = start at-loop .pre .1 .0 in
     ((at-cut .cut .ensures .within, fits-sl w h (a .1), fits-sh w h (a .2)), fits-out w h _ (start at-loop .pre .1 .1))
 
 cast-push : tie.Need-cast-push Inv-loop μ-loop
 cast-push c =
     let at-at = read (cut-there (emitted c .before)) in
-    omega (arith, at-at .before .loop-test .taken, start (looped at-at) .pre .0 .widest)
+    omega (arith, seen (at-at .before), start (looped at-at) .pre .0 .widest)
 
 push-requires : tie.Need-push-requires Inv-loop μ-loop
 push-requires c κs =
@@ -78,7 +82,7 @@ push-requires c κs =
     let at-at = read at-cut in
     let at-loop = looped at-at in
     let w = at-loop .loop .inv in
-    let h = at-at .before .loop-test .taken in
+    let h = seen (at-at .before) in
     let a = start at-loop .pre .1 .0 in
     (fits-sl w h (a .1), (enters w h _ _ (height-past _ _ _ _ (le-refl _)) (at-at .height-at .ensures) (at-cut .cut .ensures) (a .1) (a .2), at-cut .cut .ensures))
 
@@ -92,7 +96,7 @@ stride-requires : tie.Need-stride-requires Inv-loop μ-loop
 stride-requires c κs =
     let at-at = read-there (c .before) in
     let p = start (looped at-at) .pre in
-    (p .0, (p .1 .0 .0, at-at .before .loop-test .taken))
+    (p .0, (p .1 .0 .0, seen (at-at .before)))
 
 -- the next column is still one, or just past the last
 on : (c : tie.After-stride Inv-loop μ-loop) → let at-loop = looped (read-there (c .before .before)) in
@@ -103,7 +107,7 @@ add-x : tie.Need-add-x Inv-loop μ-loop
 add-x c = omega (arith, on c, start (looped (read-there (c .before .before))) .pre .0 .widest)
 
 loop-less : tie.Need-loop-less Inv-loop μ-loop
-loop-less c = omega (arith, on c, read-there (c .before .before) .before .loop-test .taken)
+loop-less c = omega (arith, on c, seen (read-there (c .before .before) .before))
 
 loop-again : tie.Need-loop-again Inv-loop μ-loop
 loop-again c =
@@ -117,7 +121,7 @@ loop-again c =
     let ek = at-emit .emit .kept in
     let occ = occupied (a .table .now) in
     walk-jump (heightOf occ (a .w) (a .y)) (support occ (a .w) (a .h) (a .y)) (λ k e. unheld occ (a .w) (a .y) k (a .h) e)
-    (walk-more w (at-at .before .loop-test .taken) _ _ _ _ _ _ _ _ _ _ _ (at-at .height-at .ensures) (at-cut .cut .ensures) (at-emit .before .before .before .before .before .before .left-of .ensures)
+    (walk-more w (seen (at-at .before)) _ _ _ _ _ _ _ _ _ _ _ (at-at .height-at .ensures) (at-cut .cut .ensures) (at-emit .before .before .before .before .before .before .left-of .ensures)
     (pk .0) (pk .1 .0) (ek .1 .1 .1 .1 .1 .1 .1 .0) (ek .1 .1 .1 .1 .1 .1 .1 .1 .0) (ek .1 .1 .1 .1 .1 .1 .1 .1 .1 .0)
     (at-emit .emit .ensures .0) (at-emit .emit .ensures .1) (at-push .push .ensures) (c .before .reach .ensures))
     (c .stride .result) (c .stride .ensures .one) (c .stride .ensures .inside)
