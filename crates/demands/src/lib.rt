@@ -1,0 +1,1 @@
+// The three demands: theorems about the definitions of `rules`. No code.
