@@ -1,0 +1,90 @@
+-- The code of a list of lines, line by line; sums of bytes. Assumes nothing.
+use mathlib.Core.Path.{_≡_, refl, sym, ap, _∙_}
+use mathlib.Core.Bool.{Bool, true, false, not, cond, _&&_, _||_}
+use mathlib.Core.Logic.{⊎-elim}
+use mathlib.Core.List.{List, [], _∷_}
+use Prim.Native.Nat.{ℕ, zero, suc, _+_}
+use native.Mathlib.Omega.{arith}
+use borrow.Author.Tests.{ne-eqb, ltb-true, ltb-false, lt-leb, le-leb}
+use lib.Dec.{leb, ltb, eqb}
+use Rattle.rules.specs.Judging.{Line, _when_, first}
+use Rattle.rules.specs.Tests.{all}
+use Rattle.rules.specs.Requests.{isRemove, isPin, byRule, ruleOf, wide, high, byte6, byte7, zeros}
+use Rattle.rules.proofs.Tests.{decide}
+use Rattle.requests.specs.Steps.{stray}
+
+-- a line that applies gives its code; one that does not leaves it to the next; and code 0 says that none does
+pub first-here : (c : ℕ) (b : Bool) (ls : List Line) → b ≡ true → c ≡ first (c when b ∷ ls)
+unfolding first
+first-here c b ls e = sym (ap (λ d. cond d c (first ls)) e)
+
+pub first-past : (c : ℕ) (b : Bool) (ls : List Line) (n : ℕ) → b ≡ false → n ≡ first ls → n ≡ first (c when b ∷ ls)
+unfolding first
+first-past c b ls n e r = r ∙ sym (ap (λ d. cond d c (first ls)) e)
+
+pub first-end : 0 ≡ first []
+unfolding first
+first-end = refl
+
+pub first-none : (c : ℕ) (b : Bool) (ls : List Line) → first (suc c when b ∷ ls) ≡ 0 → (b ≡ false) × (first ls ≡ 0)
+unfolding first
+first-none c true ls e = absurd (omega arith)
+first-none c false ls e = (refl, e)
+
+-- ---- Bools
+
+pub and-no : (a b : Bool) → a ≡ false → (a && b) ≡ false
+and-no a b e = ap (λ c. c && b) e
+
+pub and-is : (a b c : Bool) → a ≡ true → b ≡ c → (a && b) ≡ c
+and-is a b c e f = ap (λ d. d && b) e ∙ f
+
+pub or-is : (a b c : Bool) → a ≡ false → b ≡ c → (a || b) ≡ c
+or-is a b c e f = ap (λ d. d || b) e ∙ f
+
+pub over : (a n : ℕ) → ltb a n ≡ not (leb n a)
+over a n = ⊎-elim (λ (e : ltb a n ≡ true). e ∙ sym (ap not (lt-leb n a (ltb-true a n e)))) (λ (e : ltb a n ≡ false). e ∙ sym (ap not (le-leb n a (ltb-false a n e)))) (decide (ltb a n))
+
+-- ---- bytes that must be zero
+
+-- one byte more is zero too exactly when the sum still is
+sum-more : (a n : ℕ) → (eqb n 0 && eqb 0 a) ≡ eqb (a + n) 0
+sum-more zero n = go (eqb n 0) ∙ ap (λ m. eqb m 0) (let e : n ≡ 0 + n = omega arith in e)
+  where
+    go : (b : Bool) → (b && true) ≡ b
+    go true = refl
+    go false = refl
+sum-more (suc a) n = go (eqb n 0) ∙ sym (ne-eqb (suc a + n) 0 (λ z. omega arith))
+  where
+    go : (b : Bool) → (b && eqb 0 (suc a)) ≡ false
+    go true = ne-eqb 0 (suc a) (λ z. omega arith)
+    go false = refl
+
+abbrev sum : List ℕ → ℕ
+sum [] = 0
+sum (a ∷ l) = a + sum l
+
+all-sum : (l : List ℕ) → all (eqb 0) l ≡ eqb (sum l) 0
+unfolding all
+all-sum [] = refl
+all-sum (a ∷ l) = ap (λ b. b && eqb 0 a) (all-sum l) ∙ sum-more a (sum l)
+
+sum-is : (n : ℕ) (l : List ℕ) → n ≡ sum l → not (eqb n 0) ≡ not (all (eqb 0) l)
+sum-is n l e = ap (λ k. not (eqb k 0)) e ∙ sym (ap not (all-sum l))
+
+module _ (q : List ℕ) where
+  pub stray-remove : (a b c d e : ℕ) → isRemove q ≡ true → a ≡ ruleOf q → b ≡ wide q → c ≡ high q → d ≡ byte6 q → e ≡ byte7 q → not (eqb (a + b + c + d + e) 0) ≡ stray q
+  unfolding stray zeros
+  stray-remove a b c d e p ea eb ec ed ee = sum-is (a + b + c + d + e) (ruleOf q ∷ wide q ∷ high q ∷ byte6 q ∷ byte7 q ∷ []) (omega arith) ∙ rw p
+
+  pub stray-pin : (n : ℕ) → isRemove q ≡ false → isPin q ≡ true → n ≡ ruleOf q → not (eqb n 0) ≡ stray q
+  unfolding stray zeros
+  stray-pin n e f s = sum-is n (ruleOf q ∷ []) (omega arith) ∙ rw (e, f)
+
+  pub stray-rule : (a b : ℕ) → isRemove q ≡ false → isPin q ≡ false → byRule q ≡ true → a ≡ byte6 q → b ≡ byte7 q → not (eqb (a + b) 0) ≡ stray q
+  unfolding stray zeros
+  stray-rule a b e f g ea eb = sum-is (a + b) (byte6 q ∷ byte7 q ∷ []) (omega arith) ∙ rw (e, f, g)
+
+  pub stray-none : isRemove q ≡ false → isPin q ≡ false → byRule q ≡ false → false ≡ stray q
+  unfolding stray zeros all
+  stray-none e f g = rw (e, f, g)

@@ -1,0 +1,86 @@
+-- The requests of a block in turn: the state after the first k is what the code has. Assumes nothing.
+use mathlib.Core.Path.{_≡_, refl, sym, ap, ap₂, _∙_, subst, subst⁻¹}
+use mathlib.Core.List.{List, [], _∷_, _++_, append-nil}
+use Prim.Native.Nat.{ℕ, zero, suc, _+_, _-_, _*_, _≤_, _<_}
+use native.Mathlib.Numerals.{add-one}
+use native.Mathlib.Omega.{arith}
+use lib.IntN.{ℤ}
+use lib.ListN.{length, take, drop, drop-of-length-le, length-append, length-drop}
+use borrow.Rule.Slice.PartMut.{putMid}
+use Rattle.cells.proofs.Parts.{put-part}
+use Rattle.rules.specs.Surface.{Standing}
+use Rattle.rules.specs.Requests.{stepOf, answerOf, tableAfter, weightsAfter, acceptedOne}
+use Rattle.rules.specs.Blocks.{State, started, next, request, after}
+use Rattle.rules.specs.declared.Step.{Step}
+use Rattle.rules.specs.declared.Step.the-variants.{Refused, Done}
+use Rattle.requests.specs.Steps.{Served, Ran}
+use Rattle.requests.proofs.Accepted.{served-stands}
+
+-- the first k requests are run
+pub record RanTo (W H : ℕ) (s₀ : List ℤ) (t₀ b a₀ : List ℕ) (k : ℕ) (s : List ℤ) (t a : List ℕ) (n : ℕ) : Type 0 where
+  pub stands : Standing W H s t
+  pub weights : s ≡ after W H b (started s₀ t₀) k .weights
+  pub table : t ≡ after W H b (started s₀ t₀) k .table
+  pub answers : a ≡ after W H b (started s₀ t₀) k .answers ++ drop (8 * k) a₀
+  pub accepted : n ≡ after W H b (started s₀ t₀) k .accepted
+  pub few : n ≤ k
+  pub same : length t ≡ length t₀
+
+one-most : (d : Step) → acceptedOne d ≤ 1
+one-most (Refused c) = omega arith
+one-most (Done i r) = omega arith
+
+pub served-one : (W H : ℕ) (q : List ℕ) (s : List ℤ) (t : List ℕ) (s′ : List ℤ) (t′ a : List ℕ) (n : ℕ) → Served W H q s t s′ t′ a n → n ≤ 1
+served-one W H q s t s′ t′ a n v = omega (arith, v .accepted, one-most (stepOf W H t q))
+
+module _ (W H : ℕ) (s₀ : List ℤ) (t₀ b a₀ : List ℕ) where
+  abbrev state : ℕ → State
+  state k = after W H b (started s₀ t₀) k
+
+  pub ran-none : Standing W H s₀ t₀ → RanTo W H s₀ t₀ b a₀ 0 s₀ t₀ a₀ 0
+  unfolding after
+  ran-none d = record { stands = d; weights = refl; table = refl; answers = refl; accepted = refl; few = omega arith; same = refl }
+
+  pub answers-long : (k : ℕ) → length (state k .answers) ≡ 8 * k
+  unfolding after next
+  answers-long zero = refl
+  answers-long (suc k) = simp (length-append, answers-long k) (omega arith)
+
+  -- one request more, as the definition counts
+  ran-suc : (k : ℕ) (s : List ℤ) (t a : List ℕ) (s′ : List ℤ) (t′ a′ p : List ℕ) (n m : ℕ) → RanTo W H s₀ t₀ b a₀ k s t a n → Served W H (request b k) s t s′ t′ p m →
+      a′ ≡ putMid (8 * k) (8 * k + 8 - 8 * k) a p → length t′ ≡ length t → RanTo W H s₀ t₀ b a₀ (suc k) s′ t′ a′ (n + m)
+  unfolding after next
+  ran-suc k s t a s′ t′ a′ p n m r v e l =
+      let q = request b k in
+      let e8 : 8 * k + 8 ≡ 8 * suc k = omega arith in
+      record {
+        stands = served-stands W H q s t s′ t′ p m (r .stands) v;
+        weights = v .weights ∙ ap₂ (λ x y. weightsAfter W H q (stepOf W H y q) y x) (r .weights) (r .table);
+        table = v .table ∙ ap (λ y. tableAfter q (stepOf W H y q) y) (r .table);
+        answers = e ∙ ap (λ l. putMid (8 * k) (8 * k + 8 - 8 * k) l p) (r .answers) ∙ put-part (state k .answers) a₀ p (8 * k) 8 (answers-long k)
+            ∙ ap (λ l. (state k .answers ++ l) ++ drop (8 * k + 8) a₀) (v .answer ∙ ap (λ y. answerOf q (stepOf W H y q)) (r .table))
+            ∙ ap (λ j. (state k .answers ++ answerOf q (stepOf W H (state k .table) q)) ++ drop j a₀) e8;
+        accepted = ap₂ _+_ (r .accepted) (v .accepted ∙ ap (λ y. acceptedOne (stepOf W H y q)) (r .table));
+        few = omega (arith, r .few, v .accepted, one-most (stepOf W H t q));
+        same = l ∙ r .same;
+      }
+
+  -- the same at k + 1, with the part as the code lends it
+  pub ran-more : (k : ℕ) (s : List ℤ) (t a : List ℕ) (s′ : List ℤ) (t′ a′ p : List ℕ) (n m : ℕ) → RanTo W H s₀ t₀ b a₀ k s t a n → Served W H (take (8 * k + 8 - 8 * k) (drop (8 * k) b)) s t s′ t′ p m →
+      a′ ≡ putMid (8 * k) (8 * k + 8 - 8 * k) a p → length t′ ≡ length t → RanTo W H s₀ t₀ b a₀ (k + 1) s′ t′ a′ (n + m)
+  ran-more k s t a s′ t′ a′ p n m r v e l =
+      let e8 : 8 * k + 8 - 8 * k ≡ 8 = omega arith in
+      subst⁻¹ (λ j. RanTo W H s₀ t₀ b a₀ j s′ t′ a′ (n + m)) (add-one k)
+      (ran-suc k s t a s′ t′ a′ p n m r (subst (λ j. Served W H (take j (drop (8 * k) b)) s t s′ t′ p m) e8 v) e l)
+
+  -- the answers keep their length
+  pub ran-long : (k n : ℕ) (s : List ℤ) (t a : List ℕ) (m : ℕ) → k ≤ n → length a₀ ≡ 8 * n → RanTo W H s₀ t₀ b a₀ k s t a m → length a ≡ 8 * n
+  ran-long k n s t a m h e r = ap length (r .answers) ∙ simp (length-append, length-drop, answers-long k) (omega arith)
+
+  pub ran-all : (n : ℕ) (s : List ℤ) (t a : List ℕ) (m : ℕ) → length a₀ ≡ 8 * n → RanTo W H s₀ t₀ b a₀ n s t a m → Ran (state n) s t a m
+  ran-all n s t a m e r = record {
+    weights = r .weights;
+    table = r .table;
+    answers = r .answers ∙ ap (λ l. state n .answers ++ l) (drop-of-length-le a₀ {i = 8 * n} (omega arith)) ∙ append-nil (state n .answers);
+    accepted = r .accepted;
+  }

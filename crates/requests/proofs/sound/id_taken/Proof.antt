@@ -1,0 +1,22 @@
+-- `requests::sound::id_taken` meets its contract. Assumes nothing.
+use mathlib.Core.Path.{_≡_, refl, sym, ap, _∙_}
+use mathlib.Core.Bool.{not}
+use Rattle.requests.proofs.Lines.{and-no, and-is}
+use borrow.Author.Needs.{needs}
+use Rattle.requests.proofs.sound.id_taken.Statement.{statement}
+use Rattle.requests.proofs.sound.id_taken.Tie as tie
+
+makes-new-requires : tie.Need-makes-new-requires
+makes-new-requires c κs = search needs
+
+placed-requires : tie.Need-placed-requires
+placed-requires c κs = search needs
+
+returns : tie.Need-returns
+returns c = c .placed .ensures ∙ sym (and-is _ _ _ (sym (c .before .before .makes-new .ensures) ∙ c .before .if1 .taken) refl)
+
+returns-2 : tie.Need-returns-2
+returns-2 c = sym (and-no _ _ (sym (c .before .makes-new .ensures) ∙ c .if1 .left))
+
+pub id-taken-spec : {M : Type 1} → statement M
+id-taken-spec = tie.close (tie.spec makes-new-requires placed-requires returns returns-2)

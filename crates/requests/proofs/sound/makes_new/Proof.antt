@@ -1,0 +1,21 @@
+-- `requests::sound::makes_new` meets its contract. Assumes nothing.
+use borrow.Author.Tests.{eq-eqb, ne-eqb, lt-leb, le-leb, not-true, not-false}
+use borrow.Author.Needs.{needs}
+use Rattle.requests.proofs.sound.makes_new.Statement.{statement}
+use Rattle.requests.proofs.sound.makes_new.Tie as tie
+
+shared-slice-read-if1 : tie.Need-shared-slice-read-if1
+shared-slice-read-if1 c = search needs
+
+returns : tie.Need-returns
+returns c = simp (eq-eqb _ _ (c .if1 .taken))
+
+shared-slice-read-result : tie.Need-shared-slice-read-result
+shared-slice-read-result c = search needs
+
+returns-2 : tie.Need-returns-2
+returns-2 c = simp (ne-eqb _ _ (c .before .if1 .left))
+
+pub makes-new-spec : {M : Type 1} → statement M
+makes-new-spec =
+    tie.close (tie.spec shared-slice-read-if1 returns shared-slice-read-result returns-2)

@@ -1,0 +1,21 @@
+-- `requests::sound::rule_over` meets its contract. Assumes nothing.
+use mathlib.Core.Path.{_≡_, refl, sym, ap, _∙_}
+use Rattle.requests.proofs.Lines.{and-no, and-is}
+use borrow.Author.Needs.{needs}
+use Rattle.requests.proofs.sound.rule_over.Statement.{statement}
+use Rattle.requests.proofs.sound.rule_over.Tie as tie
+
+by-rule-requires : tie.Need-by-rule-requires
+by-rule-requires c κs = search needs
+
+shared-slice-read-result : tie.Need-shared-slice-read-result
+shared-slice-read-result c = search needs
+
+returns : tie.Need-returns
+returns c = sym (and-is _ _ _ (sym (c .before .before .by-rule .ensures) ∙ c .before .if1 .taken) refl)
+
+returns-2 : tie.Need-returns-2
+returns-2 c = sym (and-no _ _ (sym (c .before .by-rule .ensures) ∙ c .if1 .left))
+
+pub rule-over-spec : {M : Type 1} → statement M
+rule-over-spec = tie.close (tie.spec by-rule-requires shared-slice-read-result returns returns-2)

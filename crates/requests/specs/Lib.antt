@@ -1,0 +1,2 @@
+-- What judging, serving and running leave.
+pub mod Steps

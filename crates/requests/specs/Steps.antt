@@ -1,0 +1,71 @@
+-- WHAT JUDGING, SERVING AND RUNNING LEAVE, in the words of the rules. q is a request's eight bytes; s and t are weights and table before, s′ and t′ after.
+use mathlib.Core.Path.{_≡_}
+use mathlib.Core.Bool.{Bool, true, false, not, cond, _&&_, _||_}
+use mathlib.Core.List.{List, [], _∷_}
+use mathlib.Core.Option.{Option, none, some}
+use Prim.Native.Nat.{ℕ, _+_, _*_, _≤_}
+use lib.Dec.{ltb, eqb}
+use lib.IntN.{ℤ}
+use lib.ListN.{length}
+use Rattle.rules.specs.Tests.{all}
+use Rattle.rules.specs.Surface.{occupied, fresh}
+use Rattle.rules.specs.Empties.{cellsEmpty}
+use Rattle.rules.specs.Judging.{first}
+use Rattle.rules.specs.Requests.{operation, idLow, idHigh, zeros, soundLines, ground, stepOf, answerOf, tableAfter, weightsAfter, acceptedOne}
+use Rattle.rules.specs.Blocks.{State}
+use Rattle.rules.specs.declared.Rect.{Rect}
+use Rattle.rules.specs.declared.Step.{Step}
+use Rattle.rules.specs.declared.Step.the-variants.{Refused, Done}
+use Rattle.modules.specs.Walk.{On}
+use Rattle.modules.specs.Change.{Placing, Taking}
+
+-- a byte that must be zero is not
+unfoldable pub stray : List ℕ → Bool
+stray q = not (all (eqb 0) (zeros q))
+
+-- "x + w > W or y + h > H"
+abbrev pub past : ℕ → ℕ → Rect → Bool
+past W H r = ltb W (r .x + r .w) || ltb H (r .y + r .h)
+
+-- a module by rule that would go into slot i: 20 where the rule finds no place, 22 where the place that it chose has an occupied cell
+unfoldable pub ruleStep : (ℕ → ℕ → Bool) → ℕ → Option Rect → Step
+ruleStep occ i none = Refused 20
+ruleStep occ i (some r) = cond (cellsEmpty occ r) (Done i r) (Refused 22)
+
+-- a request that none of the codes 11 to 17 refuses
+abbrev pub Sound : List ℕ → List ℕ → Type 0
+Sound t q = first (soundLines t q) ≡ 0
+
+-- judging leaves all as it was where it refuses; else the ground on which the request was judged, without the old module of an exchange
+abbrev pub tableLeft : List ℕ → Step → List ℕ → List ℕ
+tableLeft q (Refused c) t = t
+tableLeft q (Done i r) t = ground t q
+
+abbrev pub weightsLeft : ℕ → ℕ → List ℕ → Step → List ℕ → List ℤ → List ℤ
+weightsLeft W H q (Refused c) t s = s
+weightsLeft W H q (Done i r) t s = fresh W H (ground t q)
+
+pub record Judged (W H : ℕ) (q : List ℕ) (s : List ℤ) (t : List ℕ) (s′ : List ℤ) (t′ : List ℕ) (d : Step) : Type 0 where
+  pub step : d ≡ stepOf W H t q
+  pub weights : s′ ≡ weightsLeft W H q d t s
+  pub table : t′ ≡ tableLeft q d t
+
+-- the change that an accepted request makes may be made: s and t are those on which it was judged
+pub record Changing (W H : ℕ) (q : List ℕ) (s : List ℤ) (t : List ℕ) (i : ℕ) (r : Rect) : Type 0 where
+  pub place : On W H r
+  pub taking : operation q ≡ 2 → Taking W H s t i
+  pub placing : (operation q ≡ 2 → ⊥) → Placing W H s t i (idLow q) (idHigh q) r
+
+-- a request is served: weights, table, its answer's eight bytes, and 1 where it is accepted
+pub record Served (W H : ℕ) (q : List ℕ) (s : List ℤ) (t : List ℕ) (s′ : List ℤ) (t′ a : List ℕ) (n : ℕ) : Type 0 where
+  pub weights : s′ ≡ weightsAfter W H q (stepOf W H t q) t s
+  pub table : t′ ≡ tableAfter q (stepOf W H t q) t
+  pub answer : a ≡ answerOf q (stepOf W H t q)
+  pub accepted : n ≡ acceptedOne (stepOf W H t q)
+
+-- what a run has left is what a state says
+pub record Ran (b : State) (s′ : List ℤ) (t′ a : List ℕ) (n : ℕ) : Type 0 where
+  pub weights : s′ ≡ b .weights
+  pub table : t′ ≡ b .table
+  pub answers : a ≡ b .answers
+  pub accepted : n ≡ b .accepted

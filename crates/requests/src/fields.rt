@@ -1,0 +1,41 @@
+// "A request is 8 bytes: operation, rule, id low, id high, w, h, then bytes 6 and 7."
+ghost use mathlib.Core.Path.{_≡_};
+ghost use Prim.Native.Nat.{ℕ, _+_, _*_, _≤_, _<_};
+ghost use lib.ListN.{length, getD};
+ghost use Rattle.rules.specs.Requests.{idAsked, pinned as pinnedAt};
+ghost use Rattle.modules.specs.Change.{Bytes};
+use rules::Rect;
+
+fn wide(b: u8) -> usize
+    ensures { λ r. ⌜ (r ≡ b) × (r < 256) ⌝ }
+{
+    b as usize
+}
+
+// Byte k of a request.
+pub fn byte(q: &[u8], k: usize) -> usize
+    requires { ⌜ k < length (now q) ⌝ }
+    ensures { λ r. ⌜ (r ≡ getD (now (q .entry)) k 0) × (r < 256) ⌝ }
+{
+    wide(q[k])
+}
+
+pub fn id_asked(q: &[u8]) -> usize
+    requires { ⌜ length (now q) ≡ 8 ⌝ }
+    ensures { λ r. ⌜ (r ≡ idAsked (now (q .entry))) × (r < 65536) ⌝ }
+{
+    byte(q, 2) + 256 * byte(q, 3)
+}
+
+// "3 pin: byte 6 is x, byte 7 is y"
+pub fn pinned(q: &[u8]) -> Rect
+    requires { ⌜ length (now q) ≡ 8 ⌝ }
+    ensures { λ r. ⌜ (r ≡ pinnedAt (now (q .entry))) × Bytes r ⌝ }
+{
+    Rect {
+        x: byte(q, 6),
+        y: byte(q, 7),
+        w: byte(q, 4),
+        h: byte(q, 5),
+    }
+}

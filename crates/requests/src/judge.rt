@@ -1,0 +1,128 @@
+// What a request comes to. Codes 18 to 22 are judged on the surface: for an exchange on the surface without the old module.
+ghost use mathlib.Core.Path.{_≡_};
+ghost use Prim.Native.Nat.{ℕ, _+_, _*_, _≤_, _<_};
+ghost use lib.ListN.{length};
+ghost use Rattle.rules.specs.Surface.{Standing, occupied, slots};
+ghost use Rattle.rules.specs.Requests.{operation, ruleOf, wide, high, idAsked, rulePlace, stepOf};
+ghost use Rattle.modules.specs.Change.{Bytes};
+ghost use Rattle.requests.specs.Steps.{past, ruleStep, Sound, Judged};
+use super::fields::byte;
+use super::fields::id_asked;
+use super::fields::pinned;
+use super::sound::sound_code;
+use choice::Choice;
+use rules::Rect;
+use rules::Step;
+
+// A module by rule that would go into slot i. 20: the rule finds no place, so no position has all its cells empty. 22: the place that it chose has an
+// occupied cell.
+fn by_rule(w: usize, h: usize, s: &[i16], t: &[u8], q: &[u8], i: usize) -> Step
+    requires { ⌜ Standing w h (now s) (now t) ⌝ }
+    requires { ⌜ (length (now q) ≡ 8) × (ruleOf (now q) ≤ 2) × (1 ≤ wide (now q)) × (1 ≤ high (now q)) ⌝ }
+    ensures { λ r. ⌜ r ≡ ruleStep (occupied (now (t .entry))) i (rulePlace (occupied (now (t .entry))) w h (ruleOf (now (q .entry))) (wide (now (q .entry))) (high (now (q .entry)))) ⌝ }
+{
+    let c = choice::choose(w, h, s, t, byte(q, 1), byte(q, 4), byte(q, 5));
+    let Choice::At(r) = c else {
+        return Step::Refused(20);
+    };
+    if cells::none_taken(s, w, r.x, r.y, r.w, r.h) {
+        return Step::Done(i, r);
+    }
+    Step::Refused(22)
+}
+
+// Operation 1. 19: no free slot.
+fn judge_place(w: usize, h: usize, s: &[i16], t: &[u8], q: &[u8]) -> Step
+    requires { ⌜ Standing w h (now s) (now t) ⌝ }
+    requires { ⌜ (length (now q) ≡ 8) × Sound (now t) (now q) × (operation (now q) ≡ 1) ⌝ }
+    ensures { λ r. ⌜ r ≡ stepOf w h (now (t .entry)) (now (q .entry)) ⌝ }
+{
+    let i = modules::lowest_free(t);
+    if t.len() / 8 <= i {
+        return Step::Refused(19);
+    }
+    by_rule(w, h, s, t, q, i)
+}
+
+// Operation 2: nothing else can refuse it.
+fn judge_remove(w: usize, h: usize, s: &[i16], t: &[u8], q: &[u8]) -> Step
+    requires { ⌜ Standing w h (now s) (now t) ⌝ }
+    requires { ⌜ (length (now q) ≡ 8) × Sound (now t) (now q) × (operation (now q) ≡ 2) ⌝ }
+    ensures { λ r. ⌜ r ≡ stepOf w h (now (t .entry)) (now (q .entry)) ⌝ }
+{
+    let i = modules::slot_of(t, id_asked(q));
+    Step::Done(i, table::rect_at(t, i))
+}
+
+// "x + w > W or y + h > H"
+fn is_past(w: usize, h: usize, r: Rect) -> bool
+    requires { ⌜ Bytes r ⌝ }
+    ensures { λ b. ⌜ b ≡ past w h r ⌝ }
+{
+    if w < r.x + r.w {
+        return true;
+    }
+    h < r.y + r.h
+}
+
+// Operation 3. 18: past the edge. 19: no free slot. 21: a cell of the place is occupied.
+fn judge_pin(w: usize, h: usize, s: &[i16], t: &[u8], q: &[u8]) -> Step
+    requires { ⌜ Standing w h (now s) (now t) ⌝ }
+    requires { ⌜ (length (now q) ≡ 8) × Sound (now t) (now q) × (operation (now q) ≡ 3) ⌝ }
+    ensures { λ r. ⌜ r ≡ stepOf w h (now (t .entry)) (now (q .entry)) ⌝ }
+{
+    let r = pinned(q);
+    if is_past(w, h, r) {
+        return Step::Refused(18);
+    }
+    let i = modules::lowest_free(t);
+    if t.len() / 8 <= i {
+        return Step::Refused(19);
+    }
+    if cells::none_taken(s, w, r.x, r.y, r.w, r.h) {
+        return Step::Done(i, r);
+    }
+    Step::Refused(21)
+}
+
+// Operation 4: "judged on the surface without the old module and keeps its slot; refused, the old one stays".
+fn judge_exchange(w: usize, h: usize, s: &mut [i16], t: &mut [u8], q: &[u8]) -> Step
+    requires { ⌜ Standing w h (now s) (now t) ⌝ }
+    requires { ⌜ (length (now q) ≡ 8) × Sound (now t) (now q) × (operation (now q) ≡ 4) ⌝ }
+    ensures { λ r. ⌜ Judged w h (now (q .entry)) (now (s .entry)) (now (t .entry)) (now (s .exit)) (now (t .exit)) r ⌝ }
+{
+    let i = modules::slot_of(t, id_asked(q));
+    let at = 8 * i;
+    let low = t[at];
+    let high = t[at + 1];
+    let old = table::rect_at(t, i);
+    modules::take_out(w, h, s, t, i);
+    let d = by_rule(w, h, s, t, q, i);
+    let Step::Done(_, _) = d else {
+        modules::put_in(w, h, s, t, i, low, high, old);
+        return d;
+    };
+    d
+}
+
+// What the request comes to. Where it is refused, weights and table are as they were; else they are those on which it was judged.
+pub fn judge(w: usize, h: usize, s: &mut [i16], t: &mut [u8], q: &[u8]) -> Step
+    requires { ⌜ Standing w h (now s) (now t) ⌝ }
+    requires { ⌜ length (now q) ≡ 8 ⌝ }
+    ensures { λ r. ⌜ Judged w h (now (q .entry)) (now (s .entry)) (now (t .entry)) (now (s .exit)) (now (t .exit)) r ⌝ }
+{
+    let c = sound_code(t, q);
+    if c != 0 {
+        return Step::Refused(c);
+    }
+    if q[0] == 1 {
+        return judge_place(w, h, s, t, q);
+    }
+    if q[0] == 2 {
+        return judge_remove(w, h, s, t, q);
+    }
+    if q[0] == 3 {
+        return judge_pin(w, h, s, t, q);
+    }
+    judge_exchange(w, h, s, t, q)
+}

@@ -1,0 +1,26 @@
+// "the requests then run in turn, each on the surface that the one before left."
+ghost use mathlib.Core.Path.{_≡_};
+ghost use Prim.Native.Nat.{ℕ, _+_, _*_, _≤_, _<_};
+ghost use lib.ListN.{length};
+ghost use Rattle.rules.specs.Surface.{Standing};
+ghost use Rattle.rules.specs.Blocks.{started, requests, after};
+ghost use Rattle.requests.specs.Steps.{Ran};
+use super::serve::serve;
+
+// The requests of a block in turn, each answered in its own part of the answers. The result is how many are accepted.
+pub fn run_on(w: usize, h: usize, s: &mut [i16], t: &mut [u8], b: &[u8], a: &mut [u8]) -> usize
+    requires { ⌜ Standing w h (now s) (now t) ⌝ }
+    requires { ⌜ (length (now b) ≡ 8 * requests (now b)) × (requests (now b) ≤ 512) × (length (now a) ≡ length (now b)) ⌝ }
+    ensures { λ n. ⌜ Ran (after w h (now (b .entry)) (started (now (s .entry)) (now (t .entry))) (requests (now (b .entry)))) (now (s .exit)) (now (t .exit)) (now (a .exit)) n ⌝ }
+{
+    let n = b.len() / 8;
+    let mut done = 0;
+    let mut k = 0;
+    while k < n {
+        let at = 8 * k;
+        let end = at + 8;
+        done += serve(w, h, s, t, &b[at..end], &mut a[at..end]);
+        k += 1;
+    }
+    done
+}

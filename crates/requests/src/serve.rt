@@ -1,0 +1,81 @@
+// One request: judged, the change made, and answered in the eight bytes lent for it.
+ghost use mathlib.Core.Path.{_≡_};
+ghost use mathlib.Core.List.{[], _∷_};
+ghost use Prim.Native.Nat.{ℕ, _+_, _*_, _≤_, _<_};
+ghost use lib.ListN.{length};
+ghost use Rattle.rules.specs.Surface.{Standing, withRecord, fresh};
+ghost use Rattle.rules.specs.Requests.{operation, idLow, idHigh, codeOf, recordAfter};
+ghost use Rattle.modules.specs.Change.{Bytes};
+ghost use Rattle.requests.specs.Steps.{Changing, Served};
+use super::judge::judge;
+use rules::Rect;
+use rules::Step;
+
+fn code_of(d: Step) -> u8
+    ensures { λ r. ⌜ r ≡ codeOf d ⌝ }
+{
+    match d {
+        Step::Refused(c) => c,
+        Step::Done(_, _) => 0,
+    }
+}
+
+fn byte_of(n: usize) -> u8
+    requires { ⌜ n < 256 ⌝ }
+    ensures { λ r. ⌜ r ≡ n ⌝ }
+{
+    n as u8
+}
+
+// "code, operation and id as they came, then x, y, w, h"
+fn answer(q: &[u8], a: &mut [u8], code: u8, r: Rect)
+    requires { ⌜ (length (now q) ≡ 8) × (length (now a) ≡ 8) ⌝ }
+    requires { ⌜ Bytes r ⌝ }
+    ensures { λ _. ⌜ now (a .exit) ≡ code ∷ operation (now (q .entry)) ∷ idLow (now (q .entry)) ∷ idHigh (now (q .entry)) ∷ r .x ∷ r .y ∷ r .w ∷ r .h ∷ [] ⌝ }
+{
+    a[0] = code;
+    a[1] = q[0];
+    a[2] = q[2];
+    a[3] = q[3];
+    a[4] = byte_of(r.x);
+    a[5] = byte_of(r.y);
+    a[6] = byte_of(r.w);
+    a[7] = byte_of(r.h);
+}
+
+// Operation 2 takes the module of slot i out. The others put the module r there, under the request's id: an exchange into the slot that judging
+// it has freed, so the record stays in its slot.
+fn change(w: usize, h: usize, s: &mut [i16], t: &mut [u8], q: &[u8], i: usize, r: Rect)
+    requires { ⌜ length (now q) ≡ 8 ⌝ }
+    requires { ⌜ Changing w h (now q) (now s) (now t) i r ⌝ }
+    ensures { λ _. ⌜ now (t .exit) ≡ withRecord (now (t .entry)) i (recordAfter (now (q .entry)) r) ⌝ }
+    ensures { λ _. ⌜ now (s .exit) ≡ fresh w h (now (t .exit)) ⌝ }
+{
+    if q[0] == 2 {
+        modules::take_out(w, h, s, t, i);
+        return;
+    }
+    modules::put_in(w, h, s, t, i, q[2], q[3], r);
+}
+
+// "A refused request changes neither weights nor table": refusal leads straight to its answer. The result is 1 where it is accepted.
+pub fn serve(w: usize, h: usize, s: &mut [i16], t: &mut [u8], q: &[u8], a: &mut [u8]) -> usize
+    requires { ⌜ Standing w h (now s) (now t) ⌝ }
+    requires { ⌜ (length (now q) ≡ 8) × (length (now a) ≡ 8) ⌝ }
+    ensures { λ n. ⌜ Served w h (now (q .entry)) (now (s .entry)) (now (t .entry)) (now (s .exit)) (now (t .exit)) (now (a .exit)) n ⌝ }
+{
+    let d = judge(w, h, s, t, q);
+    let Step::Done(i, r) = d else {
+        let none = Rect {
+            x: 0,
+            y: 0,
+            w: 0,
+            h: 0,
+        };
+        answer(q, a, code_of(d), none);
+        return 0;
+    };
+    change(w, h, s, t, q, i, r);
+    answer(q, a, 0, r);
+    1
+}
