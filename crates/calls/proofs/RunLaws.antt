@@ -10,13 +10,16 @@ use lib.IntN.{ℤ}
 use lib.ListN.{length}
 use Rattle.rules.specs.Judging.{Line, _when_, first}
 use Rattle.rules.specs.Surface.{stands}
-use Rattle.rules.specs.Blocks.{State, started, requests, after}
+use Rattle.rules.specs.Requests.{stepOf, acceptedOne}
+use Rattle.rules.specs.Blocks.{State, started, requests, request, next, after}
+use Rattle.rules.specs.declared.Step.{Step}
+use Rattle.rules.specs.declared.Step.the-variants.{Refused, Done}
 use Rattle.rules.specs.Calls.{sizeLines, standLines, badBlock, badAnswers, resultOf, runLines, runCode, runWith}
 use Rattle.rules.specs.Host.{badBytes, weightsOf, bytesOf, hostRun}
 use Rattle.rules.proofs.Tests.{or-neither}
 use Rattle.meaning.proofs.Lowest.{rising, first-stop, first-over}
 use Rattle.surface.proofs.CallLaws.{first-none}
-use Rattle.calls.specs.Promise.{blockLines, HostRanBy}
+use Rattle.calls.specs.Promise.{blockLines, Lent, LentBlock, HostRanBy}
 
 -- the sizes are right: the block's code is left
 pub sizes-then : (bad : Bool) (W H n nq na : ℕ) → first (sizeLines bad W H n) ≡ 0 → first (sizeLines bad W H n ++ blockLines nq na) ≡ first (blockLines nq na)
@@ -83,3 +86,22 @@ module _ (W H : ℕ) (b t q a : List ℕ) where
       let zero-is : code ≡ 0 = over e ∙ rw f in
       let z : eqb code 0 ≡ true = eq-eqb code 0 zero-is in
       record { result = rw z (omega (arith, u, zero-is)); weights = rw z p; table = rw z r; answers = rw z s }
+
+-- ---- what a block's code 0 says
+
+module _ (W H : ℕ) (b t q a : List ℕ) (l : LentBlock W H b t q a) where
+  pub block-lent : Lent W H b t
+  block-lent = record { right = sizes-none (badBytes W H b) W H (length t) (length q) (length a) (l .right) }
+
+  pub block-good : GoodBlock q a
+  block-good = good-block q a (sym (sizes-then (badBytes W H b) W H (length t) (length q) (length a) (block-lent .right)) ∙ l .right)
+
+-- a block accepts at most as many requests as it has
+pub accepted-few : (W H : ℕ) (q : List ℕ) (s : List ℤ) (t : List ℕ) (k : ℕ) → after W H q (started s t) k .accepted ≤ k
+unfolding after next
+accepted-few W H q s t zero = omega arith
+accepted-few W H q s t (suc k) = go (stepOf W H (after W H q (started s t) k .table) (request q k)) (accepted-few W H q s t k)
+  where
+    go : (d : Step) → after W H q (started s t) k .accepted ≤ k → after W H q (started s t) k .accepted + acceptedOne d ≤ suc k
+    go (Refused c) h = omega arith
+    go (Done i r) h = omega arith

@@ -2,7 +2,7 @@
 -- definition of the call on bytes (rules/specs/Host). Buffers lent for reading cannot change.
 use mathlib.Core.Path.{_≡_}
 use mathlib.Core.Bool.{not}
-use mathlib.Core.List.{List, [], _∷_}
+use mathlib.Core.List.{List, [], _∷_, _++_}
 use Prim.Native.Nat.{ℕ}
 use lib.Dec.{eqb}
 use lib.ListN.{length}
@@ -17,6 +17,10 @@ pub record Lent (W H : ℕ) (b t : List ℕ) : Type 0 where
 -- 4 and 5, by the lengths of block and answers
 abbrev pub blockLines : ℕ → ℕ → List Line
 blockLines nq na = 4 when badBlock nq ∷ 5 when not (eqb na nq) ∷ []
+
+-- and 4 and 5 neither
+pub record LentBlock (W H : ℕ) (b t q a : List ℕ) : Type 0 where
+  pub right : first (sizeLines (badBytes W H b) W H (length t) ++ blockLines (length q) (length a)) ≡ 0
 
 pub record HostClearedBy (W H : ℕ) (b t : List ℕ) (r : ℕ) (b′ t′ : List ℕ) : Type 0 where
   pub result : r ≡ hostClear W H b t .result

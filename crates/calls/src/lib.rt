@@ -8,7 +8,8 @@ ghost use lib.ListN.{length};
 ghost use Rattle.rules.specs.Judging.{first};
 ghost use Rattle.rules.specs.Calls.{badBlock, clearedWeights, sizeLines};
 ghost use Rattle.rules.specs.Host.{bytesOf, hostCheck};
-ghost use Rattle.calls.specs.Promise.{blockLines, Lent, HostClearedBy, HostListedBy};
+ghost use Rattle.calls.specs.Promise.{blockLines, Lent, LentBlock, HostClearedBy, HostRanBy, HostListedBy};
+use requests::run::run_on;
 use surface::calls::clear_weights;
 use surface::calls::free_slots;
 use surface::calls::stands;
@@ -95,6 +96,55 @@ pub extern "C" fn freelist_check(w: usize, h: usize, weights: &[u8], table: &[u8
     let n = w * h;
     let mut a = [0i16; 4096];
     checked_on(w, h, weights, table, &mut a[..n])
+}
+
+fn ran_on(
+    w: usize,
+    h: usize,
+    b: &mut [u8],
+    t: &mut [u8],
+    q: &[u8],
+    answers: &mut [u8],
+    a: &mut [i16],
+) -> u64
+    requires { ⌜ LentBlock w h (now b) (now t) (now q) (now answers) × (length (now a) ≡ w * h) ⌝ }
+    ensures { λ r. ⌜ HostRanBy w h (now (b .entry)) (now (t .entry)) (now (q .entry)) (now (answers .entry)) r (now (b .exit)) (now (t .exit)) (now (answers .exit)) ⌝ }
+{
+    codec::decode(b, a);
+    if !stands(w, h, a, t) {
+        return 6;
+    }
+    let n = run_on(w, h, a, t, q, answers);
+    codec::encode(a, b);
+    65536 * (n as u64)
+}
+
+// run a block: each request in turn on what the one before left; counts the requests accepted. Codes 1 to 6.
+#[no_mangle]
+pub extern "C" fn freelist_run(
+    w: usize,
+    h: usize,
+    weights: &mut [u8],
+    table: &mut [u8],
+    requests: &[u8],
+    answers: &mut [u8],
+) -> u64
+    ensures { λ r. ⌜ HostRanBy w h (now (weights .entry)) (now (table .entry)) (now (requests .entry)) (now (answers .entry)) r (now (weights .exit)) (now (table .exit)) (now (answers .exit)) ⌝ }
+{
+    let code = block_code(
+        w,
+        h,
+        weights.len(),
+        table.len(),
+        requests.len(),
+        answers.len(),
+    );
+    if code != 0 {
+        return code;
+    }
+    let n = w * h;
+    let mut a = [0i16; 4096];
+    ran_on(w, h, weights, table, requests, answers, &mut a[..n])
 }
 
 fn listed_on(w: usize, h: usize, b: &[u8], t: &[u8], room: &mut [u8], a: &mut [i16]) -> u64
