@@ -1,11 +1,13 @@
 #!/bin/sh
-# Runs every test: the brute force and its own tests, the comparison of the definitions with it, and the proofs.
-# Exit status 0 and a last line `N passed, 0 failed` when all went well.
+# Runs every test: the brute force and its own tests, the comparison of the definitions with it, the proofs, and the exported calls against the
+# brute force. Exit status 0 and a last line `N passed, 0 failed` when all went well. `run-tests.sh long` compares twenty times as many cases.
 set -eu
 cd "$(dirname "$0")"
 . tests/need.sh
 need gcc gcc libc6-dev
 need awk gawk
+need nm binutils
+need valgrind valgrind
 command -v rt >/dev/null 2>&1 || { echo "run-tests.sh: the Rattle toolchain's rt is not on the path"; exit 1; }
 
 build=build
@@ -22,4 +24,16 @@ echo "== layout of the sources"
 rt fmt --check
 
 echo "== proofs, must-fail edits, programs"
-rt ci
+rt ci >"$build/ci" 2>&1 || { cat "$build/ci"; exit 1; }
+cat "$build/ci"
+passed=$(tail -n 1 "$build/ci")
+case $passed in
+*' passed, 0 failed') ;;
+*) echo "run-tests.sh: rt ci did not pass"; exit 1 ;;
+esac
+
+echo "== the exported calls against the brute force"
+rt staticlib calls >"$build/archive" 2>&1 || { cat "$build/archive"; exit 1; }
+sh tests/host/run.sh target/staticlib/libcalls.a "$build/host" "${1:-}"
+
+echo "$passed"

@@ -1,0 +1,272 @@
+#include "blocks.h"
+#include "both.h"
+#include "calls.h"
+#include "numbers.h"
+#include "surfaces.h"
+
+#include <stdio.h>
+#include <string.h>
+
+/* ---- requests ------------------------------------------------------------------------------ */
+
+enum { LENGTH = 600 };
+
+static uint8_t requests[8 * LENGTH];
+static unsigned drawn;
+static const struct call_case *on;      /* the surface that they are meant for */
+
+static void add(unsigned op, unsigned rule, unsigned id, unsigned w, unsigned h, unsigned b6, unsigned b7)
+{
+    unsigned q[8] = { op, rule, id & 255, id >> 8, w, h, b6, b7 };
+    if (drawn == LENGTH)
+        return;
+    for (unsigned i = 0; i < 8; i++)
+        requests[8 * drawn + i] = (uint8_t)q[i];
+    drawn++;
+}
+
+/* An id in the table, or a small one, or any. */
+static unsigned some_id(void)
+{
+    const struct bytes *t = &on->lent[TABLE];
+    const uint8_t *s = t->byte + 8 * below((unsigned)t->len / 8);
+    if (one_in(3) && is_used(s))
+        return s[0] + 256u * s[1];
+    return one_in(30) ? 0 : one_in(30) ? below(65536) : one_in(8) ? 256 * from_to(1, 5) : from_to(1, 5);
+}
+
+static unsigned some_side(uint64_t limit)
+{
+    unsigned n = (unsigned)limit;
+    return one_in(25) ? 0 : one_in(25) ? any_byte() : one_in(6) ? from_to(1, n + 1) : from_to(1, n / 3 + 1);
+}
+
+static unsigned some_rule(void) { return one_in(25) ? any_byte() : below(3); }
+static unsigned some_zero(void) { return one_in(25) ? any_byte() : 0; }
+
+static void add_any(void)
+{
+    uint8_t b[8];
+    for (unsigned i = 0; i < 8; i++)
+        b[i] = any_byte();
+    add(one_in(2) ? b[0] : b[0] % 7, b[1], b[2] + 256u * b[3], b[4], b[5], b[6], b[7]);
+}
+
+static void add_place(void)
+{
+    unsigned rule = some_rule(), id = some_id(), w = some_side(on->w), h = some_side(on->h);
+    unsigned b6 = some_zero(), b7 = some_zero();
+    add(1, rule, id, w, h, b6, b7);
+}
+
+static void add_remove(void)
+{
+    unsigned rule = some_zero(), id = some_id(), w = some_zero(), h = some_zero();
+    unsigned b6 = some_zero(), b7 = some_zero();
+    add(2, rule, id, w, h, b6, b7);
+}
+
+static void add_pin(void)
+{
+    unsigned rule = some_zero(), id = some_id(), w = some_side(on->w), h = some_side(on->h);
+    unsigned x = one_in(25) ? any_byte() : below((unsigned)on->w);
+    unsigned y = one_in(25) ? any_byte() : below((unsigned)on->h);
+    add(3, rule, id, w, h, x, y);
+}
+
+/* The sum in a byte would be on the surface. */
+static void add_wrapping_pin(void)
+{
+    unsigned id = some_id(), far = from_to(1, 100), x = below((unsigned)on->w), y = below((unsigned)on->h);
+    if (one_in(2))
+        add(3, 0, id, far + x, 1, 256 - far, y);
+    else
+        add(3, 0, id, 1, far + y, x, 256 - far);
+}
+
+static void add_exchange(void)
+{
+    unsigned rule = some_rule(), id = some_id(), w = some_side(on->w), h = some_side(on->h);
+    unsigned b6 = some_zero(), b7 = some_zero();
+    add(4, rule, id, w, h, b6, b7);
+}
+
+/* "a module exchanged for a larger one under its own id, refused, asked again,
+ * then removed" */
+static void add_exchanges(void)
+{
+    unsigned id = some_id(), w = some_side(on->w), h = some_side(on->h), rule = below(3);
+    unsigned W = (unsigned)on->w, H = (unsigned)on->h;
+    add(1, rule, id, w, h, 0, 0);
+    for (unsigned n = from_to(1, 5); n > 0; n--) {
+        w += below(3);
+        h += below(3);
+        add(4, rule, id, w, h, 0, 0);
+        add(4, rule, id, W + below(2), H, 0, 0);
+        if (one_in(2))
+            add(4, below(3), id, w, h, 0, 0);
+    }
+    if (one_in(3))
+        add(4, rule, id, 1, 1, 0, 0);
+    if (!one_in(3))
+        add(2, 0, id, 0, 0, 0, 0);
+    if (one_in(3))
+        add(4, rule, id, 1, 1, 0, 0);
+}
+
+/* More modules than the table has slots, single cells. */
+static void add_many(void)
+{
+    unsigned W = (unsigned)on->w, H = (unsigned)on->h, id = below(60000);
+    for (unsigned n = from_to(1, 20); n > 0; n--) {
+        unsigned x = below(W), y = below(H), rule = below(3);
+        if (one_in(4))
+            add(1, rule, ++id, 1, 1, 0, 0);
+        else
+            add(3, 0, ++id, 1, 1, x, y);
+    }
+}
+
+static void add_some(void)
+{
+    switch (below(16)) {
+    case 0: add_any(); break;
+    case 1: case 2: case 3: add_remove(); break;
+    case 4: case 5: case 6: add_pin(); break;
+    case 7: case 8: add_exchange(); break;
+    case 9: case 10: add_exchanges(); break;
+    case 11: add_many(); break;
+    case 12: add_wrapping_pin(); break;
+    default: add_place(); break;
+    }
+}
+
+static void draw_requests(const struct call_case *c, unsigned n)
+{
+    on = c;
+    drawn = 0;
+    while (drawn < n)
+        add_some();
+    drawn = n;
+}
+
+/* ---- blocks ---------------------------------------------------------------------------------- */
+
+/* The block from this request on, of so many bytes. */
+static uint64_t run_block(struct call_case *c, unsigned from, uint64_t len, uint64_t answers_len)
+{
+    c->call = RUN;
+    set_bytes(&c->lent[REQUESTS], requests + 8 * from, len);
+    fill_any(&c->lent[ANSWERS], answers_len);
+    c->lent[REQUESTS].null = len == 0 && one_in(2);
+    c->lent[ANSWERS].null = answers_len == 0 && one_in(2);
+    return both(c);
+}
+
+void some_block(struct call_case *c)
+{
+    unsigned n = below(4);
+    draw_requests(c, n);
+    run_block(c, 0, 8 * n, 8 * n);
+}
+
+void fixed_block(struct call_case *c)
+{
+    static const unsigned lengths[] = { 0, 8, 16, 24, 7, 17 };
+    unsigned len = lengths[below(6)], answers_len = one_in(4) ? len + 1 : len;
+    drawn = 0;
+    add(1, 0, 7, 1, 1, 0, 0);
+    add(4, 1, 7, 2, 1, 0, 0);
+    add(2, 0, 9, 0, 0, 0, 0);
+    run_block(c, 0, len, answers_len);
+}
+
+/* On a copy, so that each is on the same surface. */
+static void block_of(const struct call_case *c, uint64_t len, uint64_t answers_len)
+{
+    static struct call_case copy;
+    copy = *c;
+    run_block(&copy, 0, len, answers_len);
+}
+
+void block_edges(struct call_case *c)
+{
+    static const unsigned lengths[] = { 0, 1, 7, 8, 9, 15, 16, 4088, 4095, 4096, 4097, 4103, 4104, 4112 };
+    draw_requests(c, LENGTH);
+    for (unsigned i = 0; i < sizeof lengths / sizeof lengths[0]; i++) {
+        block_of(c, lengths[i], lengths[i]);
+        block_of(c, lengths[i], lengths[i] + 1);
+        block_of(c, lengths[i], lengths[i] + 8);
+        block_of(c, lengths[i], lengths[i] > 0 ? lengths[i] - 1 : 1);
+        block_of(c, lengths[i], lengths[i] > 8 ? lengths[i] - 8 : 0);
+    }
+}
+
+/* ---- histories ------------------------------------------------------------------------------- */
+
+/* The same history in blocks of this size, or of sizes drawn where it is 0;
+ * compared after each block, one request at a time among them. */
+static void in_blocks(const struct call_case *start, unsigned n, unsigned size, struct call_case *end)
+{
+    *end = *start;
+    for (unsigned at = 0; at < n;) {
+        unsigned k = size == 0 ? below(9) : size;
+        k = k > n - at ? n - at : k;
+        run_block(end, at, 8 * k, 8 * k);
+        at += k;
+    }
+}
+
+static int same_surface(const struct call_case *a, const struct call_case *b)
+{
+    return memcmp(a->lent[WEIGHTS].byte, b->lent[WEIGHTS].byte, a->lent[WEIGHTS].len) == 0
+        && memcmp(a->lent[TABLE].byte, b->lent[TABLE].byte, a->lent[TABLE].len) == 0;
+}
+
+void history(struct call_case *c)
+{
+    static struct call_case one, whole, cut;
+    unsigned n = from_to(1, one_in(6) ? 120 : 30);
+    draw_requests(c, n);
+    in_blocks(c, n, 1, &one);
+    in_blocks(c, n, n, &whole);
+    in_blocks(c, n, 0, &cut);
+    if (!same_surface(&one, &whole) || !same_surface(&one, &cut)) {
+        printf("host: the history of case %lu depends on how it is cut\n", cases);
+        differ++;
+    }
+    checked_and_listed(&one);
+}
+
+/* ---- each code of each operation ------------------------------------------------------------- */
+
+/* On 3x3 with two slots, in this turn: the request, and the code it gives. */
+static const uint8_t aimed[][9] = {
+    { 3, 0, 7, 0, 1, 1, 1, 1, 0 },
+    { 0, 0, 1, 0, 1, 1, 0, 0, 11 }, { 5, 0, 1, 0, 1, 1, 0, 0, 11 }, { 255, 0, 1, 0, 1, 1, 0, 0, 11 },
+    { 1, 0, 1, 0, 1, 1, 1, 0, 12 }, { 1, 3, 1, 0, 1, 1, 0, 0, 13 }, { 1, 0, 0, 0, 1, 1, 0, 0, 14 },
+    { 1, 0, 7, 0, 1, 1, 0, 0, 15 }, { 1, 0, 1, 0, 0, 1, 0, 0, 17 }, { 1, 0, 1, 0, 2, 2, 0, 0, 20 },
+    { 1, 2, 1, 0, 1, 1, 0, 0, 0 }, { 1, 0, 2, 0, 1, 1, 0, 0, 19 }, { 1, 0, 2, 0, 200, 1, 0, 0, 19 },
+    { 2, 1, 7, 0, 0, 0, 0, 0, 12 }, { 2, 0, 0, 0, 0, 0, 0, 0, 14 }, { 2, 0, 9, 0, 0, 0, 0, 0, 16 },
+    { 3, 1, 2, 0, 1, 1, 0, 0, 12 }, { 3, 0, 0, 0, 1, 1, 0, 0, 14 }, { 3, 0, 7, 0, 1, 1, 0, 0, 15 },
+    { 3, 0, 2, 0, 1, 0, 0, 0, 17 }, { 3, 0, 2, 0, 3, 1, 1, 0, 18 }, { 3, 0, 2, 0, 1, 1, 1, 1, 19 },
+    { 2, 0, 1, 0, 0, 0, 0, 0, 0 }, { 3, 0, 2, 0, 1, 1, 1, 1, 21 }, { 3, 0, 2, 0, 3, 1, 0, 0, 0 },
+    { 4, 0, 7, 0, 1, 1, 0, 1, 12 }, { 4, 3, 7, 0, 1, 1, 0, 0, 13 }, { 4, 0, 0, 0, 1, 1, 0, 0, 14 },
+    { 4, 0, 9, 0, 1, 1, 0, 0, 16 }, { 4, 0, 7, 0, 0, 1, 0, 0, 17 }, { 4, 0, 7, 0, 4, 1, 0, 0, 20 },
+    { 4, 2, 7, 0, 3, 2, 0, 0, 0 }, { 2, 0, 7, 0, 0, 0, 0, 0, 0 } };
+
+void every_request_code(struct call_case *c)
+{
+    static struct call_case end;
+    drawn = sizeof aimed / sizeof aimed[0];
+    for (unsigned i = 0; i < drawn; i++)
+        memcpy(requests + 8 * i, aimed[i], 8);
+    cleared(c, 3, 3, 2);
+    in_blocks(c, drawn, 1, &end);
+    in_blocks(c, drawn, drawn, &end);
+    for (unsigned i = 0; i < drawn; i++)
+        if (end.lent[ANSWERS].byte[8 * i] != aimed[i][8]) {
+            printf("host: aimed request %u gave %u\n", i, end.lent[ANSWERS].byte[8 * i]);
+            differ++;
+        }
+}

@@ -1,0 +1,21 @@
+/* One call made on the library and on the brute force. */
+#ifndef BOTH_H
+#define BOTH_H
+
+#include "lending.h"
+
+extern unsigned long cases, differ;
+
+void both_begin(void);
+
+/* Makes the call on both, compares the results and every lent buffer, and
+ * leaves in the case what the brute force left. Gives its result. */
+uint64_t both(struct call_case *c);
+
+/* The brute force alone, on the case's buffers. */
+uint64_t brute_on(struct call_case *c);
+
+void print_seen(void);
+int all_codes_seen(void);
+
+#endif

@@ -1,0 +1,42 @@
+#!/bin/sh
+# Compares the exported library with the brute force.
+# run.sh ARCHIVE DIRECTORY [long]: the library, where to build, and twenty
+# times as many cases. Exit status 0 when all went well.
+set -eu
+here=$(dirname "$0")
+. "$here/../need.sh"
+need gcc gcc libc6-dev
+need nm binutils
+need valgrind valgrind
+
+archive=${1:?the archive}
+build=${2:?the directory}
+scale=80
+seeds="1 2 3"
+flags="-std=c11 -O2 -Wall -Wextra -pedantic -Werror -DHAVE_RUN -I$here/../brute"
+brute="$here/../brute/brute.c"
+mkdir -p "$build"
+
+nm "$archive" | grep -q ' T freelist_run$' || { echo "run.sh: the archive has no freelist_run"; exit 1; }
+
+[ "${3:-}" = long ] && scale=$((20 * scale))
+
+sources=
+for part in compare all34 blocks both calls damage lending numbers surfaces; do
+    sources="$sources $here/$part.c"
+done
+gcc $flags -o "$build/compare" $sources "$brute" "$archive"
+gcc $flags -o "$build/wrong_inner_only" "$here/wrong_inner_only.c" "$brute" "$archive"
+
+for seed in $seeds; do
+    echo "-- compare, seed $seed, scale $scale"
+    "$build/compare" "$seed" "$scale"
+done
+echo "-- every way to lay modules on 3x4 and on 4x3"
+"$build/compare" all34
+echo "-- a wrong build"
+"$build/wrong_inner_only"
+echo "-- a sample under memcheck, seed 4"
+valgrind -q --error-exitcode=1 "$build/compare" sample 4 3 >"$build/sample" ||
+    { cat "$build/sample"; exit 1; }
+grep -E '^(seed|clear|check|run|list|host)' "$build/sample"

@@ -1,0 +1,32 @@
+/* Standing surfaces of many shapes, each reached by requests that the brute
+ * force ran; and weights worked out from a table. */
+#ifndef SURFACES_H
+#define SURFACES_H
+
+#include "lending.h"
+
+enum { SHAPES = 13 };
+extern const char *const shape_names[SHAPES];
+
+/* A surface of this shape in the case's weights and table. */
+void small_surface(struct call_case *c, unsigned shape);
+void large_surface(struct call_case *c, unsigned shape);
+
+/* A cleared surface. */
+void cleared(struct call_case *c, unsigned w, unsigned h, unsigned slots);
+
+/* One request more for the block, and the block run by the brute force. */
+void ask(unsigned op, unsigned rule, unsigned id, unsigned w, unsigned h, unsigned b6, unsigned b7);
+void run_asked(struct call_case *c);
+
+int is_used(const uint8_t *slot);
+int get_weight(const struct call_case *c, unsigned x, unsigned y);
+void put_weight(struct call_case *c, unsigned x, unsigned y, int weight);
+int has_cell(const uint8_t *slot, unsigned x, unsigned y);
+int cell_is_occupied(const struct call_case *c, unsigned x, unsigned y);
+
+/* The weights worked out from the table; where modules share a cell, the
+ * first or the last slot that has it counts. */
+void paint(struct call_case *c, int first_counts);
+
+#endif
