@@ -4,3 +4,4 @@ pub mod Frame
 pub mod History
 pub mod Told
 pub mod Sessions
+pub mod Examples

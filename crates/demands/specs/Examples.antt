@@ -1,0 +1,87 @@
+-- EXAMPLES, computed: the history and the frame in worked cases G and H and in the two cases of rules/specs/Examples with a removal and an exchange. After
+-- each request: the modules that the history says are placed, the weights worked out afresh from them, and the cells that the request may have changed.
+use mathlib.Core.Path.{_≡_, refl}
+use mathlib.Core.Bool.{Bool, true, false, not, _&&_, _||_}
+use mathlib.Core.List.{List, [], _∷_, _++_}
+use Prim.Native.Nat.{ℕ, suc, _+_, _*_, _/_, _%_}
+use lib.Dec.{leb, ltb}
+use lib.IntN.{ℤ}
+use lib.ListN.{replicate}
+use Rattle.rules.specs.Tests.{every, tab, keep}
+use Rattle.rules.specs.Surface.{rect, rectOf, occupied}
+use Rattle.rules.specs.Requests.{needsOld}
+use Rattle.rules.specs.Blocks.{State, started, requests, request, after}
+use Rattle.rules.specs.Calls.{clearedWeights}
+use Rattle.rules.specs.Figures.{caseHolds, eight, e, o}
+use Rattle.rules.specs.declared.Rect.{Rect}
+use Rattle.demands.specs.Frame.{oldSlot, bare}
+use Rattle.demands.specs.History.{Module, moduleAt, codeIn, placeIn, taken, remains, history, historyWeight}
+
+-- ---- the frame as a test (that it says what `MayChange` says is `may-change-is` in proofs/FrameTest)
+
+unfoldable pub reaches : Rect → List ℕ → ℕ → ℕ → Bool
+reaches m t c r = leb (m .x) c && ltb c (m .x + m .w) && leb (m .y) r && every (suc r) (λ j. ltb j (m .y + m .h) || not (occupied t c j))
+
+unfoldable pub mayChange : List ℕ → List ℕ → Rect → ℕ → ℕ → Bool
+mayChange t q r c y = reaches r (bare t q) c y || needsOld q && reaches (rectOf t (oldSlot t q)) (bare t q) c y
+
+-- ---- a block on a cleared surface
+
+pub record Story : Type 0 where
+  pub w : ℕ
+  pub h : ℕ
+  pub slots : ℕ
+  pub block : List ℕ
+
+module _ (s : Story) where
+  -- after its first k requests
+  abbrev stateAt : ℕ → State
+  stateAt k = after (s .w) (s .h) (s .block) (started (clearedWeights (s .w) (s .h)) (replicate (8 * s .slots) 0)) k
+
+  abbrev many : ℕ
+  many = requests (s .block)
+
+  abbrev cells : ℕ
+  cells = s .w * s .h
+
+  -- one item for each request; the answers are those of the whole block
+  abbrev pub tellings : List (List Module)
+  tellings = tab many (λ k. history (s .block) (stateAt many .answers) (suc k))
+
+  abbrev pub weighings : List (List ℤ)
+  weighings = tab many (λ k. stateAt (suc k) .weights)
+
+  abbrev pub reckonings : List (List ℤ)
+  reckonings = tab many (λ k. tab cells (λ n. historyWeight (history (s .block) (stateAt many .answers) (suc k)) (n % s .w) (n / s .w)))
+
+  -- the cells that may have changed, by number, row by row
+  abbrev pub reachings : List (List ℕ)
+  reachings = tab many (λ k. keep (λ n. mayChange (stateAt k .table) (request (s .block) k) (placeIn (request (stateAt many .answers) k)) (n % s .w) (n / s .w)) (tab cells (λ n. n)))
+
+abbrev pin : ℕ → ℕ → ℕ → ℕ → ℕ → List ℕ
+pin id x y w h = eight 3 0 id 0 w h x y
+
+abbrev remove : ℕ → List ℕ
+remove id = eight 2 0 id 0 0 0 0 0
+
+-- ---- G: 3×3, pin id 7, 1×1 at (1,1), exchanged to 2×2 by rule 2: at (0,1). The history has the new rectangle in place of the old
+
+abbrev pub storyG : Story
+storyG = record { w = 3; h = 3; slots = 2; block = pin 7 1 1 1 1 ++ eight 4 2 7 0 2 2 0 0 }
+
+pub g-told : tellings storyG ≡ (moduleAt 7 (rect 1 1 1 1) ∷ []) ∷ (moduleAt 7 (rect 0 1 2 2) ∷ []) ∷ []
+unfolding caseHolds history
+g-told = refl
+
+pub g-afresh : reckonings storyG ≡ (e 1 ∷ e 1 ∷ e 1 ∷ e 2 ∷ o 1 ∷ e 2 ∷ e 3 ∷ e 1 ∷ e 3 ∷ []) ∷ (e 1 ∷ e 1 ∷ e 1 ∷ o 2 ∷ o 1 ∷ e 2 ∷ o 2 ∷ o 1 ∷ e 3 ∷ []) ∷ []
+unfolding caseHolds history taken remains historyWeight
+g-afresh = refl
+
+pub g-weights : weighings storyG ≡ reckonings storyG
+unfolding caseHolds history taken remains historyWeight
+g-weights = refl
+
+-- the pin: (1,1) and (1,2) below it; the exchange: columns 0 and 1 from row 1 down
+pub g-reached : reachings storyG ≡ (4 ∷ 7 ∷ []) ∷ (3 ∷ 4 ∷ 6 ∷ 7 ∷ []) ∷ []
+unfolding caseHolds reaches mayChange
+g-reached = refl
