@@ -3,20 +3,18 @@ use mathlib.Core.Path.{_≡_, refl, sym, ap, _∙_}
 use mathlib.Core.Bool.{Bool, true, false, cond}
 use mathlib.Core.List.{List, [], _∷_, _++_, map, map-append}
 use mathlib.Core.Option.{Option, none, some}
-use Prim.Native.Nat.{ℕ, zero, suc, _+_, _≤_, _<_}
-use native.Mathlib.Numerals.{add-one}
+use Prim.Native.Nat.{ℕ, suc, _+_}
 use native.Mathlib.Omega.{arith}
 use lib.Dec.{ltb}
 use Rattle.rules.specs.Tests.{put, keep, chain}
 use Rattle.rules.specs.Empties.{entries}
 use Rattle.rules.specs.Requests.{fits, cost, cheapest, chosenOf, chosen, lowerLeft, standing, rulePlace}
 use Rattle.rules.specs.declared.Rect.{Rect}
-use Rattle.listing.specs.Row.{Entry, entryAt, rows, span}
+use Rattle.listing.specs.Row.{Entry, span}
 use Rattle.listing.specs.Listed.{entryRect, entriesIn, rectsIn, listed}
 use Rattle.listing.proofs.Spans.{span-more}
 use Rattle.listing.proofs.List.{entries-listed}
-use Rattle.choice.specs.Best.{choiceOf, placeIn, lessOf, better, bestOf}
-use Rattle.choice.specs.declared.Choice.{Choice}
+use Rattle.choice.specs.Best.{choiceOf, placeIn, better, bestOf}
 use Rattle.choice.specs.declared.Best.{Best}
 use Rattle.choice.specs.declared.Best.the-variants.{Found, Nothing}
 

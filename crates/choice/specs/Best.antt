@@ -1,6 +1,6 @@
 -- THE CHOICE BY RULE as one walk over the list: the best entry with room so far, as its cost and the place that it gives. W and H are the surface's
 -- size, w and h the module's.
-use mathlib.Core.Bool.{Bool, cond, _&&_}
+use mathlib.Core.Bool.{cond}
 use mathlib.Core.List.{List, [], _∷_}
 use mathlib.Core.Option.{Option, none, some}
 use Prim.Native.Nat.{ℕ, _+_, _≤_}

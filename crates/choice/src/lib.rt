@@ -5,7 +5,6 @@ ghost use mathlib.Core.List.{map};
 ghost use Prim.Native.Nat.{ℕ, _+_, _*_, _≤_, _<_};
 ghost use lib.ListN.{length};
 ghost use Rattle.rules.specs.Surface.{Standing, occupied};
-ghost use Rattle.rules.specs.Empties.{entries};
 ghost use Rattle.rules.specs.Requests.{fits, cost as costOf, rulePlace};
 ghost use Rattle.listing.specs.Row.{entry, entryAt, rows};
 ghost use Rattle.listing.specs.Listed.{entryRect, listed, Drawn};

@@ -1,29 +1,29 @@
 -- WHAT AN ACCEPTED REQUEST TELLS: its change may be made. And what serving leaves: a surface that stands. Assumes nothing.
 use mathlib.Core.Path.{_≡_, refl, sym, ap, ap₂, _∙_, subst, subst₂}
-use mathlib.Core.Bool.{Bool, true, false, not, cond, _&&_, _||_}
+use mathlib.Core.Bool.{Bool, true, false, not, cond, _&&_}
 use mathlib.Core.Logic.{⊎-elim}
-use mathlib.Core.List.{List, [], _∷_, _++_}
-use mathlib.Core.Option.{Option, none, some}
-use Prim.Native.Nat.{ℕ, zero, suc, _+_, _*_, _≤_, _<_}
+use mathlib.Core.List.{List, [], _∷_}
+use mathlib.Core.Option.{some}
+use Prim.Native.Nat.{ℕ, zero, suc, _≤_, _<_}
 use native.Mathlib.Omega.{arith}
-use borrow.Author.Tests.{eqb-true, eqb-false, ne-eqb, eq-eqb, ltb-true, leb-true, not-true, not-false}
-use lib.Dec.{leb, ltb, eqb}
+use borrow.Author.Tests.{eqb-true, eqb-false, ne-eqb, ltb-true, leb-true, not-false}
+use lib.Dec.{leb, eqb}
 use lib.IntN.{ℤ}
 use lib.ListN.{length}
 use lib.Seq.{sets}
 use Rattle.cells.proofs.Upto.{filled}
 use Rattle.rules.specs.Surface.{Standing, slots, rectOf, recordOf, freeRecord, freeSlot, withRecord, occupied, fresh}
-use Rattle.rules.specs.Empties.{cellsEmpty, Empty}
+use Rattle.rules.specs.Empties.{cellsEmpty}
 use Rattle.rules.specs.Judging.{first}
-use Rattle.rules.specs.Requests.{operation, ruleOf, idLow, idHigh, idAsked, wide, high, isPlace, isRemove, isPin, isExchange, known, byRule, makesNew, pinned, idPlaced, slotOf, someFree, lowestFree, ground, position, rulePlace, anyCellTaken, orNone, soundLines, placeLines, judging, acceptedStep, stepOf, answerOf, recordAfter, tableAfter, weightsAfter, acceptedOne}
+use Rattle.rules.specs.Requests.{operation, ruleOf, idLow, idHigh, idAsked, wide, high, isRemove, isPin, isExchange, byRule, makesNew, pinned, idPlaced, slotOf, someFree, lowestFree, ground, position, rulePlace, anyCellTaken, orNone, soundLines, placeLines, judging, acceptedStep, stepOf, answerOf, recordAfter, tableAfter, weightsAfter, acceptedOne}
 use Rattle.rules.specs.declared.Rect.{Rect}
 use Rattle.rules.specs.declared.Step.{Step}
 use Rattle.rules.specs.declared.Step.the-variants.{Refused, Done}
-use Rattle.rules.proofs.Tests.{and-left, and-right, decide, not-both}
+use Rattle.rules.proofs.Tests.{and-left, and-right, decide}
 use Rattle.meaning.proofs.Lowest.{rising, first-stop, first-over}
 use Rattle.meaning.proofs.Choice.{rule-finds, rulePlace-empty}
 use Rattle.modules.specs.Walk.{On}
-use Rattle.modules.specs.Change.{Placing, Taking, Bytes}
+use Rattle.modules.specs.Change.{Placing, Bytes}
 use Rattle.modules.proofs.Search.{lowest-some, lowest-is}
 use Rattle.modules.proofs.Stand.{standing-fresh}
 use Rattle.modules.proofs.Changes.{taken-sound, put-left, take-left}

@@ -1,26 +1,25 @@
 -- WHAT A REQUEST COMES TO, case by case: the step that the rules define, from the tests that the code makes. Assumes nothing.
 use mathlib.Core.Path.{_≡_, refl, sym, ap, ap₂, _∙_, subst}
 use mathlib.Core.Bool.{Bool, true, false, not, cond, _&&_, _||_}
-use mathlib.Core.Logic.{⊎-elim}
-use mathlib.Core.List.{List, [], _∷_, _++_}
+use mathlib.Core.List.{List}
 use mathlib.Core.Option.{Option, none, some}
-use Prim.Native.Nat.{ℕ, zero, suc, _+_, _-_, _*_, _≤_, _<_}
+use Prim.Native.Nat.{ℕ, _+_, _*_, _≤_, _<_}
 use native.Mathlib.Nat.{mul-le-mul-right, mul-comm}
 use native.Mathlib.Omega.{arith}
-use borrow.Author.Tests.{eqb-true, eqb-false, eq-eqb, ne-eqb, ltb-true, ltb-false, lt-ltb, le-ltb, leb-true, not-true, not-false}
+use borrow.Author.Tests.{eqb-false, ne-eqb, ltb-true, ltb-false, lt-ltb, le-ltb, leb-true, not-false}
 use lib.Dec.{leb, ltb, eqb}
 use lib.IntN.{ℤ}
-use lib.ListN.{length, getD}
-use Rattle.rules.specs.Surface.{Standing, slots, rectOf, freeSlot, idOf, withRecord, freeRecord, occupied, fresh}
+use lib.ListN.{length}
+use Rattle.rules.specs.Surface.{Standing, slots, rectOf, idOf, withRecord, freeRecord, occupied, fresh}
 use Rattle.rules.specs.Empties.{cellsEmpty, Empty}
-use Rattle.rules.specs.Judging.{Line, first}
+use Rattle.rules.specs.Judging.{first}
 use Rattle.rules.specs.Requests.{operation, ruleOf, wide, high, idAsked, isPlace, isRemove, isPin, isExchange, known, byRule, makesNew, needsOld, hasSize, pinned, idPlaced, slotOf, someFree, lowestFree, ground, position, rulePlace, anyCellTaken, orNone, soundLines, placeLines, judging, acceptedStep, stepOf}
 use Rattle.rules.specs.declared.Rect.{Rect}
 use Rattle.rules.specs.declared.Step.{Step}
 use Rattle.rules.specs.declared.Step.the-variants.{Refused, Done}
-use Rattle.rules.proofs.Tests.{and-left, and-right, and-fails, or-left, or-right, or-neither, decide, fails, not-both}
+use Rattle.rules.proofs.Tests.{and-left, and-right, or-left, or-right, or-neither, fails, not-both}
 use Rattle.meaning.proofs.Lowest.{rising, first-stop, first-over}
-use Rattle.meaning.proofs.Choice.{rule-finds, rulePlace-empty}
+use Rattle.meaning.proofs.Choice.{rule-finds}
 use Rattle.modules.specs.Walk.{On}
 use Rattle.modules.specs.Change.{Taking}
 use Rattle.modules.proofs.Search.{slot-placed, slot-has, lowest-some}

@@ -1,7 +1,7 @@
 -- The requests of a block in turn: the state after the first k is what the code has. Assumes nothing.
 use mathlib.Core.Path.{_≡_, refl, sym, ap, ap₂, _∙_, subst, subst⁻¹}
-use mathlib.Core.List.{List, [], _∷_, _++_, append-nil}
-use Prim.Native.Nat.{ℕ, zero, suc, _+_, _-_, _*_, _≤_, _<_}
+use mathlib.Core.List.{List, _++_, append-nil}
+use Prim.Native.Nat.{ℕ, zero, suc, _+_, _-_, _*_, _≤_}
 use native.Mathlib.Numerals.{add-one}
 use native.Mathlib.Omega.{arith}
 use lib.IntN.{ℤ}
@@ -14,7 +14,7 @@ use Rattle.rules.specs.Blocks.{State, started, next, request, after}
 use Rattle.rules.specs.declared.Step.{Step}
 use Rattle.rules.specs.declared.Step.the-variants.{Refused, Done}
 use Rattle.requests.specs.Steps.{Served, Ran}
-use Rattle.requests.proofs.Accepted.{served-stands}
+use Rattle.requests.proofs.Accepted.{left-stands, served-stands}
 
 -- the first k requests are run
 pub record RanTo (W H : ℕ) (s₀ : List ℤ) (t₀ b a₀ : List ℕ) (k : ℕ) (s : List ℤ) (t a : List ℕ) (n : ℕ) : Type 0 where
@@ -45,6 +45,18 @@ module _ (W H : ℕ) (s₀ : List ℤ) (t₀ b a₀ : List ℕ) where
   unfolding after next
   answers-long zero = refl
   answers-long (suc k) = simp (length-append, answers-long k) (omega arith)
+
+  -- AFTER EACH REQUEST THE SURFACE STANDS
+  pub after-stands : Standing W H s₀ t₀ → (k : ℕ) → Standing W H (state k .weights) (state k .table)
+  unfolding after next
+  after-stands d zero = d
+  after-stands d (suc k) = left-stands W H (request b k) (state k .weights) (state k .table) (after-stands d k)
+
+  -- no more are accepted than there are
+  pub after-few : (k : ℕ) → state k .accepted ≤ k
+  unfolding after next
+  after-few zero = omega arith
+  after-few (suc k) = omega (arith, after-few k, one-most (stepOf W H (state k .table) (request b k)))
 
   -- one request more, as the definition counts
   ran-suc : (k : ℕ) (s : List ℤ) (t a : List ℕ) (s′ : List ℤ) (t′ a′ p : List ℕ) (n m : ℕ) → RanTo W H s₀ t₀ b a₀ k s t a n → Served W H (request b k) s t s′ t′ p m →
@@ -84,3 +96,14 @@ module _ (W H : ℕ) (s₀ : List ℤ) (t₀ b a₀ : List ℕ) where
     answers = r .answers ∙ ap (λ l. state n .answers ++ l) (drop-of-length-le a₀ {i = 8 * n} (omega arith)) ∙ append-nil (state n .answers);
     accepted = r .accepted;
   }
+
+-- ---- two outcomes that a contract allows are equal
+
+pub served-one-way : (W H : ℕ) (q : List ℕ) (s : List ℤ) (t : List ℕ) (s₁ s₂ : List ℤ) (t₁ a₁ t₂ a₂ : List ℕ) (n₁ n₂ : ℕ) → Served W H q s t s₁ t₁ a₁ n₁ → Served W H q s t s₂ t₂ a₂ n₂ →
+    (s₁ ≡ s₂) × (t₁ ≡ t₂) × (a₁ ≡ a₂) × (n₁ ≡ n₂)
+served-one-way W H q s t s₁ s₂ t₁ a₁ t₂ a₂ n₁ n₂ p r =
+    (p .weights ∙ sym (r .weights), p .table ∙ sym (r .table), p .answer ∙ sym (r .answer), p .accepted ∙ sym (r .accepted))
+
+pub ran-one-way : (b : State) (s₁ s₂ : List ℤ) (t₁ a₁ t₂ a₂ : List ℕ) (n₁ n₂ : ℕ) → Ran b s₁ t₁ a₁ n₁ → Ran b s₂ t₂ a₂ n₂ → (s₁ ≡ s₂) × (t₁ ≡ t₂) × (a₁ ≡ a₂) × (n₁ ≡ n₂)
+ran-one-way b s₁ s₂ t₁ a₁ t₂ a₂ n₁ n₂ p r =
+    (p .weights ∙ sym (r .weights), p .table ∙ sym (r .table), p .answers ∙ sym (r .answers), p .accepted ∙ sym (r .accepted))

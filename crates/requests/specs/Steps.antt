@@ -1,14 +1,13 @@
 -- WHAT JUDGING, SERVING AND RUNNING LEAVE, in the words of the rules. q is a request's eight bytes; s and t are weights and table before, s′ and t′ after.
 use mathlib.Core.Path.{_≡_}
-use mathlib.Core.Bool.{Bool, true, false, not, cond, _&&_, _||_}
-use mathlib.Core.List.{List, [], _∷_}
+use mathlib.Core.Bool.{Bool, not, cond, _||_}
+use mathlib.Core.List.{List}
 use mathlib.Core.Option.{Option, none, some}
-use Prim.Native.Nat.{ℕ, _+_, _*_, _≤_}
+use Prim.Native.Nat.{ℕ, _+_}
 use lib.Dec.{ltb, eqb}
 use lib.IntN.{ℤ}
-use lib.ListN.{length}
 use Rattle.rules.specs.Tests.{all}
-use Rattle.rules.specs.Surface.{occupied, fresh}
+use Rattle.rules.specs.Surface.{fresh}
 use Rattle.rules.specs.Empties.{cellsEmpty}
 use Rattle.rules.specs.Judging.{first}
 use Rattle.rules.specs.Requests.{operation, idLow, idHigh, zeros, soundLines, ground, stepOf, answerOf, tableAfter, weightsAfter, acceptedOne}

@@ -1,6 +1,6 @@
 // "A request is 8 bytes: operation, rule, id low, id high, w, h, then bytes 6 and 7."
 ghost use mathlib.Core.Path.{_≡_};
-ghost use Prim.Native.Nat.{ℕ, _+_, _*_, _≤_, _<_};
+ghost use Prim.Native.Nat.{_+_, _*_, _<_};
 ghost use lib.ListN.{length, getD};
 ghost use Rattle.rules.specs.Requests.{idAsked, pinned as pinnedAt};
 ghost use Rattle.modules.specs.Change.{Bytes};

@@ -1,9 +1,9 @@
 // What a request comes to. Codes 18 to 22 are judged on the surface: for an exchange on the surface without the old module.
 ghost use mathlib.Core.Path.{_≡_};
-ghost use Prim.Native.Nat.{ℕ, _+_, _*_, _≤_, _<_};
+ghost use Prim.Native.Nat.{_+_, _*_, _≤_, _<_};
 ghost use lib.ListN.{length};
-ghost use Rattle.rules.specs.Surface.{Standing, occupied, slots};
-ghost use Rattle.rules.specs.Requests.{operation, ruleOf, wide, high, idAsked, rulePlace, stepOf};
+ghost use Rattle.rules.specs.Surface.{Standing, occupied};
+ghost use Rattle.rules.specs.Requests.{operation, ruleOf, wide, high, rulePlace, stepOf};
 ghost use Rattle.modules.specs.Change.{Bytes};
 ghost use Rattle.requests.specs.Steps.{past, ruleStep, Sound, Judged};
 use super::fields::byte;

@@ -1,9 +1,9 @@
 // Codes 11 to 17: a test for each line of the table, and the line's code. Lowest first.
 ghost use mathlib.Core.Path.{_≡_};
 ghost use mathlib.Core.Bool.{not, _&&_, _||_};
-ghost use Prim.Native.Nat.{ℕ, _+_, _*_, _≤_, _<_};
+ghost use Prim.Native.Nat.{_+_, _*_, _<_};
 ghost use lib.Dec.{ltb, eqb};
-ghost use lib.ListN.{length, getD};
+ghost use lib.ListN.{length};
 ghost use Rattle.rules.specs.Surface.{slots};
 ghost use Rattle.rules.specs.Judging.{first};
 ghost use Rattle.rules.specs.Requests.{known, byRule, makesNew, needsOld, hasSize, ruleOf, idAsked, idPlaced, wide, high, soundLines};

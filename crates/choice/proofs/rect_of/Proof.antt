@@ -1,5 +1,5 @@
 -- `choice::rect_of` meets its contract. Assumes nothing.
-use mathlib.Core.Path.{ap, ap₂, refl}
+use mathlib.Core.Path.{refl}
 use borrow.Author.Needs.{needs}
 use native.Mathlib.Omega.{arith}
 use Rattle.meaning.proofs.Rectangles.{rect-eq}

@@ -1,6 +1,5 @@
 -- `requests::judge::by_rule` meets its contract. Assumes nothing.
-use mathlib.Core.Path.{_≡_, refl, sym, ap, _∙_}
-use mathlib.Core.Bool.{Bool}
+use mathlib.Core.Path.{_≡_, sym, _∙_}
 use mathlib.Core.Option.{Option, some}
 use Rattle.rules.specs.Surface.{occupied}
 use Rattle.rules.specs.Empties.{cellsEmpty}

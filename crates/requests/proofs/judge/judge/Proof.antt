@@ -1,5 +1,5 @@
 -- `requests::judge::judge` meets its contract. Assumes nothing.
-use mathlib.Core.Path.{_≡_, refl, sym, ap, _∙_}
+use mathlib.Core.Path.{refl, sym, ap, _∙_}
 use lib.Dec.{eqb}
 use Rattle.requests.specs.Steps.{Sound}
 use Rattle.requests.proofs.StepLaws.{step-unsound, last-op, judged-refused, judged-same}

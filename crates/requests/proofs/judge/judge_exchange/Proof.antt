@@ -3,8 +3,8 @@ use mathlib.Core.Path.{_≡_, refl, sym, ap, _∙_}
 use Prim.Native.Nat.{_+_, _*_, _≤_}
 use native.Mathlib.Omega.{arith}
 use lib.ListN.{length, getD}
-use Rattle.rules.specs.Surface.{Standing, byte, idOf, withRecord, freeRecord, fresh}
-use Rattle.rules.specs.Requests.{slotOf, idAsked, ground, stepOf, needsOld}
+use Rattle.rules.specs.Surface.{byte, withRecord, freeRecord}
+use Rattle.rules.specs.Requests.{slotOf, idAsked, ground, stepOf}
 use Rattle.modules.specs.Change.{Taking}
 use Rattle.modules.proofs.Changes.{slot-fits, take-left}
 use Rattle.modules.proofs.Exchange.{back-placing, back-left}

@@ -1,7 +1,5 @@
 -- `requests::judge::judge_pin` meets its contract. Assumes nothing.
-use mathlib.Core.Path.{_≡_, refl, sym, ap, _∙_}
-use mathlib.Core.Bool.{Bool, true, false}
-use mathlib.Core.Path.{subst, ap₂}
+use mathlib.Core.Path.{_≡_, sym, ap, _∙_, subst, ap₂}
 use Rattle.rules.specs.Surface.{occupied}
 use Rattle.rules.specs.Empties.{cellsEmpty}
 use Rattle.rules.specs.Requests.{pinned}

@@ -1,5 +1,4 @@
 -- `requests::judge::judge_place` meets its contract. Assumes nothing.
-use mathlib.Core.Path.{_≡_, refl, sym, ap, _∙_}
 use Rattle.requests.proofs.StepLaws.{none-free, one-free, rule-le, size-some, place-by, by-sized, place-full, place-rule}
 use borrow.Author.Needs.{needs}
 use Rattle.requests.proofs.judge.judge_place.Statement.{statement}

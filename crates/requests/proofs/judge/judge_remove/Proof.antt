@@ -1,5 +1,5 @@
 -- `requests::judge::judge_remove` meets its contract. Assumes nothing.
-use mathlib.Core.Path.{_≡_, refl, sym, ap, _∙_}
+use mathlib.Core.Path.{_≡_, ap, _∙_}
 use Rattle.rules.specs.Surface.{rectOf}
 use Rattle.rules.specs.Requests.{slotOf, idAsked}
 use Rattle.rules.specs.declared.Step.the-variants.{Done}

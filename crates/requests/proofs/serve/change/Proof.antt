@@ -1,5 +1,5 @@
 -- `requests::serve::change` meets its contract. Assumes nothing.
-use mathlib.Core.Path.{_≡_, refl, sym, ap, _∙_}
+use mathlib.Core.Path.{ap, _∙_}
 use Rattle.rules.specs.Surface.{withRecord}
 use Rattle.requests.proofs.Accepted.{record-free, record-new}
 use borrow.Author.Needs.{needs}

@@ -1,5 +1,5 @@
 -- `requests::serve::serve` meets its contract. Assumes nothing.
-use mathlib.Core.Path.{_≡_, refl, sym, ap, _∙_}
+use mathlib.Core.Path.{ap, _∙_}
 use mathlib.Core.List.{[], _∷_}
 use Rattle.rules.specs.Requests.{operation, idLow, idHigh, codeOf}
 use Rattle.requests.proofs.Accepted.{Accepted, on-bytes, refused-left, done-left, may-change, served-refused, served-done}

@@ -1,5 +1,5 @@
 -- `requests::sound::by_rule` meets its contract. Assumes nothing.
-use borrow.Author.Tests.{eq-eqb, ne-eqb, lt-leb, le-leb, not-true, not-false}
+use borrow.Author.Tests.{eq-eqb, ne-eqb}
 use borrow.Author.Needs.{needs}
 use Rattle.requests.proofs.sound.by_rule.Statement.{statement}
 use Rattle.requests.proofs.sound.by_rule.Tie as tie

@@ -1,5 +1,5 @@
 -- `requests::sound::has_size` meets its contract. Assumes nothing.
-use mathlib.Core.Path.{_≡_, refl, sym, ap, _∙_}
+use mathlib.Core.Path.{sym, _∙_}
 use borrow.Author.Needs.{needs}
 use Rattle.requests.proofs.sound.has_size.Statement.{statement}
 use Rattle.requests.proofs.sound.has_size.Tie as tie

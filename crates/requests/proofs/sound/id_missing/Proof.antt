@@ -1,5 +1,5 @@
 -- `requests::sound::id_missing` meets its contract. Assumes nothing.
-use mathlib.Core.Path.{_≡_, refl, sym, ap, _∙_}
+use mathlib.Core.Path.{refl, sym, ap, _∙_}
 use mathlib.Core.Bool.{not}
 use Rattle.requests.proofs.Lines.{and-no, and-is}
 use borrow.Author.Needs.{needs}

@@ -1,6 +1,5 @@
 -- `requests::sound::id_taken` meets its contract. Assumes nothing.
-use mathlib.Core.Path.{_≡_, refl, sym, ap, _∙_}
-use mathlib.Core.Bool.{not}
+use mathlib.Core.Path.{refl, sym, _∙_}
 use Rattle.requests.proofs.Lines.{and-no, and-is}
 use borrow.Author.Needs.{needs}
 use Rattle.requests.proofs.sound.id_taken.Statement.{statement}

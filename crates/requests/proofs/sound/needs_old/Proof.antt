@@ -1,5 +1,5 @@
 -- `requests::sound::needs_old` meets its contract. Assumes nothing.
-use borrow.Author.Tests.{eq-eqb, ne-eqb, lt-leb, le-leb, not-true, not-false}
+use borrow.Author.Tests.{eq-eqb, ne-eqb}
 use borrow.Author.Needs.{needs}
 use Rattle.requests.proofs.sound.needs_old.Statement.{statement}
 use Rattle.requests.proofs.sound.needs_old.Tie as tie

@@ -1,5 +1,5 @@
 -- `requests::sound::no_id` meets its contract. Assumes nothing.
-use mathlib.Core.Path.{_≡_, refl, sym, ap, _∙_}
+use mathlib.Core.Path.{ap}
 use lib.Dec.{eqb}
 use borrow.Author.Needs.{needs}
 use Rattle.requests.proofs.sound.no_id.Statement.{statement}

@@ -1,5 +1,5 @@
 -- `requests::sound::no_size` meets its contract. Assumes nothing.
-use mathlib.Core.Path.{_≡_, refl, sym, ap, _∙_}
+use mathlib.Core.Path.{refl, sym, _∙_}
 use borrow.Author.Tests.{eq-eqb, ne-eqb, not-true, not-false}
 use Rattle.requests.proofs.Lines.{and-no, and-is, or-is}
 use Rattle.rules.proofs.Tests.{or-left}

@@ -1,5 +1,5 @@
 -- `requests::sound::placed` meets its contract. Assumes nothing.
-use mathlib.Core.Path.{_≡_, refl, sym, ap, _∙_}
+use mathlib.Core.Path.{ap, _∙_}
 use lib.Dec.{ltb}
 use Rattle.rules.specs.Surface.{slots}
 use Rattle.rules.specs.Requests.{slotOf}

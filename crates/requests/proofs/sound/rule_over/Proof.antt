@@ -1,5 +1,5 @@
 -- `requests::sound::rule_over` meets its contract. Assumes nothing.
-use mathlib.Core.Path.{_≡_, refl, sym, ap, _∙_}
+use mathlib.Core.Path.{refl, sym, _∙_}
 use Rattle.requests.proofs.Lines.{and-no, and-is}
 use borrow.Author.Needs.{needs}
 use Rattle.requests.proofs.sound.rule_over.Statement.{statement}

@@ -1,5 +1,5 @@
 -- `requests::sound::sound_code` meets its contract. Assumes nothing.
-use mathlib.Core.Path.{_≡_, refl, sym, ap, _∙_}
+use mathlib.Core.Path.{sym, _∙_}
 use Rattle.rules.specs.Requests.{soundLines}
 use Rattle.requests.specs.Steps.{stray}
 use Rattle.requests.proofs.Lines.{first-here, first-past, first-end}

@@ -1,5 +1,5 @@
 -- `requests::sound::stray` meets its contract. Assumes nothing.
-use mathlib.Core.Path.{_≡_, refl, sym, ap, _∙_}
+use mathlib.Core.Path.{sym, _∙_}
 use borrow.Author.Tests.{eq-eqb, ne-eqb}
 use Rattle.requests.proofs.Lines.{stray-remove, stray-pin, stray-rule, stray-none}
 use borrow.Author.Needs.{needs}
