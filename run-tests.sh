@@ -1,6 +1,6 @@
 #!/bin/sh
-# Runs every test: the brute force and its own tests, the comparison of the definitions with it, the proofs, and the exported calls against the
-# brute force. Exit status 0 and a last line `N passed, 0 failed` when all went well. `run-tests.sh long` compares twenty times as many cases.
+# Runs every test: the brute force and its own tests, the comparison of the definitions with it, the proofs, and the exported calls and
+# the program against the brute force. Exit status 0 and a last line `N passed, 0 failed` when all went well. `run-tests.sh long` compares twenty times as many cases.
 set -eu
 cd "$(dirname "$0")"
 . tests/need.sh
@@ -35,5 +35,8 @@ esac
 echo "== the exported calls against the brute force"
 rt staticlib calls >"$build/archive" 2>&1 || { cat "$build/archive"; exit 1; }
 sh tests/host/run.sh target/staticlib/libcalls.a "$build/host" "${1:-}"
+
+echo "== the program against the brute force's"
+sh tests/program/run.sh target/bin/freelist "$build/brute" "$build/program"
 
 echo "$passed"

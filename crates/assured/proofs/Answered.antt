@@ -1,23 +1,21 @@
 -- THE REQUESTS OF A BLOCK THAT IS NOT REFUSED, each with its answer in the host's bytes. Assumes nothing.
-use mathlib.Core.Path.{_≡_, refl, sym, ap, _∙_, subst}
+use mathlib.Core.Path.{_≡_, refl, sym, ap, _∙_}
 use mathlib.Core.Bool.{Bool, true, false, not, cond, _&&_}
 use mathlib.Core.Logic.{_↔_}
-use mathlib.Core.List.{List, [], _∷_, _++_}
+use mathlib.Core.List.{List}
 use mathlib.Core.Option.{some}
-use Prim.Native.Nat.{ℕ, zero, suc, _+_, _*_, _/_, _%_, _≤_, _<_}
+use Prim.Native.Nat.{ℕ, suc, _≤_, _<_}
 use native.Mathlib.Omega.{arith}
 use borrow.Author.Tests.{not-false}
 use lib.Dec.{eqb}
-use lib.IntN.{ℤ}
 use lib.ListN.{length}
 use Rattle.rules.specs.Judging.{first}
 use Rattle.rules.specs.Surface.{Standing, rect, covers, rectOf, stands, occupied}
 use Rattle.rules.specs.Empties.{Empty}
 use Rattle.rules.specs.Requests.{idAsked, ruleOf, wide, high, byRule, isPin, isRemove, isExchange, idPlaced, slotOf, judging, pinned, ground, rulePlace, stepOf, codeOf, valuesOf, answerOf}
-use Rattle.rules.specs.Blocks.{State, started, requests, request, after, next}
+use Rattle.rules.specs.Blocks.{State, started, requests, request, after}
 use Rattle.rules.specs.Calls.{badSize, badTable, badBlock, badAnswers, sizeLines, runLines, runCode, runWith}
 use Rattle.rules.specs.Host.{badBytes, weightsOf, bytesOf, hostRun}
-use Rattle.rules.specs.declared.Rect.{Rect}
 use Rattle.rules.specs.declared.Step.{Step}
 use Rattle.rules.specs.declared.Step.the-variants.{Refused, Done}
 use Rattle.meaning.proofs.Lowest.{Lowest, refused-code}
@@ -33,10 +31,7 @@ use Rattle.demands.proofs.Demands as D
 use Rattle.calls.specs.Promise.{Lent, HostRanBy}
 use Rattle.calls.proofs.Laws.{lent-standing}
 use Rattle.assured.specs.Chain.{upTo, OneFramed}
-
-none-of : (bad : Bool) (W H n : ℕ) → badSize W H ≡ false → bad ≡ false → badTable n ≡ false → first (sizeLines bad W H n) ≡ 0
-unfolding first
-none-of bad W H n a b c = rw (a, b, c)
+use Rattle.assured.proofs.Lists.{none-of}
 
 -- an accepted step's slot
 record Accepted (d : Step) : Type 0 where

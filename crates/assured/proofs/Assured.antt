@@ -8,7 +8,6 @@ use mathlib.Core.Logic.{_↔_}
 use mathlib.Core.List.{List, [], _++_}
 use mathlib.Core.Option.{some}
 use Prim.Native.Nat.{ℕ, suc, _+_, _*_, _≤_, _<_}
-use lib.IntN.{ℤ}
 use lib.ListN.{length, getD}
 use Rattle.rules.specs.Tests.{all}
 use Rattle.rules.specs.Surface.{Standing, rect, covers, rectOf, occupied, cell, usedSlots}
@@ -79,10 +78,13 @@ pub request-refused : (W H : ℕ) (w t q room : List ℕ) {r : ℕ} {w′ t′ a
     (codeIn (request a′ k) ≡ 0 → ⊥) → (upTo W H w t q (suc k) .weights ≡ upTo W H w t q k .weights) × (upTo W H w t q (suc k) .table ≡ upTo W H w t q k .table)
 request-refused = A.answer-refused
 
--- and where every request of a block is refused, no byte of weights and table has changed
+-- and where every request of a block is refused, no byte of weights and table has changed; (the hypothesis says that w are bytes)
 pub requests-refused : (W H : ℕ) (w t q room : List ℕ) {r : ℕ} {w′ t′ a′ : List ℕ} → HostRanBy W H w t q room r w′ t′ a′ → codeOfResult r ≡ 0 →
     ((k : ℕ) → getD w k 0 < 256) → countOfResult r ≡ 0 → (w′ ≡ w) × (t′ ≡ t)
 requests-refused = Y.none-changes
+
+pub bytes-back : (W H : ℕ) (w : List ℕ) → ((k : ℕ) → getD w k 0 < 256) → length w ≡ 2 * (W * H) → bytesOf (weightsOf w) ≡ w
+bytes-back W H w bytes = Y.bytes-back w bytes (W * H)
 
 -- ==== DEMAND 2: "The list holds every maximal empty rectangle, as Handa and Vemuri define it, once each and in the stated order, with nothing else in it."
 
@@ -157,6 +159,11 @@ chain-runs = C.chain-runs
 pub host-every-cut : (W H : ℕ) (w₀ t₀ : List ℕ) {r : ℕ} {w t : List ℕ} → HostClearedBy W H w₀ t₀ r w t → codeOfResult r ≡ 0 →
     (qs : List (List ℕ)) → all (λ q. not (badBlock (length q))) qs ≡ true → ChainOf W H (length t₀) (joined [] qs)
 host-every-cut = C.every-chain
+
+-- a further block whose requests are all refused changes no byte
+pub chain-requests-refused : (W H n : ℕ) {w t b a : List ℕ} {c : ℕ} → Chain W H n w t b a c → (q room : List ℕ) {r : ℕ} {w′ t′ a′ : List ℕ} → HostRanBy W H w t q room r w′ t′ a′ →
+    codeOfResult r ≡ 0 → countOfResult r ≡ 0 → (w′ ≡ w) × (t′ ≡ t)
+chain-requests-refused W H n {w} {t} z q room p e = Y.none-changes-back W H w t q room p e (C.chain-back W H n z)
 
 -- ---- "After each request every cell's weight equals the one worked out afresh from the modules that the history of requests says are placed."
 

@@ -1,19 +1,18 @@
 -- BYTES THAT ARE BYTES are written back as they were read; so a block whose requests are all refused changes no byte. Assumes nothing.
 use mathlib.Core.Path.{_≡_, refl, sym, ap, _∙_}
-use mathlib.Core.Bool.{Bool, true, false, not, cond}
+use mathlib.Core.Bool.{Bool, cond}
 use mathlib.Core.Logic.{_⊎_, inl, inr, ⊎-elim}
-use mathlib.Core.List.{List, [], _∷_, _++_}
+use mathlib.Core.List.{List}
 use Prim.Native.Nat.{ℕ, zero, suc, _+_, _-_, _*_, _/_, _%_, _≤_, _<_}
 use native.Mathlib.Decide.{decLt}
 use native.Mathlib.Omega.{arith}
 use borrow.Author.Tests.{eqb-true, not-false}
 use lib.Dec.{eqb}
-use lib.IntN.{ℤ, pos, negsuc}
+use lib.IntN.{ℤ, pos}
 use lib.ListN.{length, getD}
 use lib.Seq.{ext-getD}
-use Rattle.rules.specs.Judging.{first}
 use Rattle.rules.specs.Requests.{stepOf, acceptedOne, weightsAfter, tableAfter}
-use Rattle.rules.specs.Blocks.{State, started, requests, request, next, after, withStep}
+use Rattle.rules.specs.Blocks.{State, started, requests, request, next, after}
 use Rattle.rules.specs.declared.Step.{Step}
 use Rattle.rules.specs.declared.Step.the-variants.{Refused, Done}
 use Rattle.rules.specs.Calls.{badSize, runLines, runCode, runWith}
@@ -110,15 +109,18 @@ module _ (W H : ℕ) (w t q room : List ℕ) {r : ℕ} {w′ t′ a′ : List �
       let b = first-none bad 2 _ (omega arith) (a .1) in
       eqb-true (length w) (2 * (W * H)) (not-false _ (b .0))
 
-  -- A BLOCK WHOSE REQUESTS ARE ALL REFUSED CHANGES NO BYTE
-  pub none-changes : ((k : ℕ) → getD w k 0 < 256) → countOfResult r ≡ 0 → (w′ ≡ w) × (t′ ≡ t)
+  -- A BLOCK WHOSE REQUESTS ARE ALL REFUSED CHANGES NO BYTE of what is written back as it was read
+  pub none-changes-back : bytesOf (weightsOf w) ≡ w → countOfResult r ≡ 0 → (w′ ≡ w) × (t′ ≡ t)
   unfolding hostRun
-  none-changes bytes none =
+  none-changes-back back none =
       let l = run-left bad W H (weightsOf w) t q room code in
       let end = after W H q (started (weightsOf w) t) (requests q) in
       let n : end .accepted ≡ 0 = sym (ap (λ (s : State). s .accepted) l) ∙ sym (host-run-count W H w t q room) ∙ sym (ap countOfResult (p .result)) ∙ none in
       let k = none-accepted W H q (weightsOf w) t (requests q) n in (
         p .weights ∙ ap (λ c. cond (eqb c 0) (bytesOf (runWith bad W H (weightsOf w) t q room .weights)) w) code
-            ∙ ap bytesOf (ap (λ (s : State). s .weights) l ∙ k .0) ∙ bytes-back w bytes (W * H) long,
+            ∙ ap bytesOf (ap (λ (s : State). s .weights) l ∙ k .0) ∙ back,
         p .table ∙ ap (λ (s : State). s .table) l ∙ k .1,
       )
+
+  pub none-changes : ((k : ℕ) → getD w k 0 < 256) → countOfResult r ≡ 0 → (w′ ≡ w) × (t′ ≡ t)
+  none-changes bytes = none-changes-back (bytes-back w bytes (W * H) long)

@@ -1,30 +1,23 @@
 -- CHAINS of the exported calls are sessions on the host's bytes. Assumes nothing.
-use mathlib.Core.Path.{_≡_, refl, sym, ap, _∙_, subst, subst₂}
-use mathlib.Core.Bool.{Bool, true, false, not, cond}
+use mathlib.Core.Path.{_≡_, refl, sym, ap, _∙_}
+use mathlib.Core.Bool.{true, false, not}
 use mathlib.Core.List.{List, [], _∷_, _++_}
-use Prim.Native.Nat.{ℕ, suc, _+_, _*_, _/_, _%_, _≤_, _<_}
-use native.Mathlib.Omega.{arith}
+use Prim.Native.Nat.{ℕ, _+_, _*_, _≤_, _<_}
 use borrow.Author.Tests.{not-true, eq-eqb}
-use lib.Dec.{eqb}
-use lib.IntN.{ℤ}
 use lib.ListN.{length}
 use Rattle.rules.specs.Tests.{all}
 use Rattle.rules.specs.Surface.{Standing, cell}
-use Rattle.rules.specs.Requests.{stepOf}
-use Rattle.rules.specs.Blocks.{State, started, requests, request, after}
+use Rattle.rules.specs.Blocks.{requests}
 use Rattle.rules.specs.Calls.{badBlock, runWith}
-use Rattle.rules.specs.Host.{badBytes, weightsOf, bytesOf, hostClear, hostRun}
-use Rattle.rules.specs.declared.Rect.{Rect}
-use Rattle.rules.specs.declared.Step.the-variants.{Done}
+use Rattle.rules.specs.Host.{badBytes, weightsOf, bytesOf, hostRun}
 use Rattle.rules.proofs.Tests.{and-left, and-right}
 use Rattle.codec.proofs.Laws.{length-bytesOf}
-use Rattle.demands.specs.Frame.{Framed}
 use Rattle.demands.specs.History.{history, historyWeight}
 use Rattle.demands.specs.Told.{Told}
 use Rattle.demands.specs.Sessions.{Session, HostSession, joined, codeOfResult, countOfResult}
-use Rattle.demands.proofs.Kept.{host-run-code, host-run-count}
-use Rattle.demands.proofs.Runs.{run-left, session-stands, standing-runs}
-use Rattle.demands.proofs.HostRuns.{host-came, host-session, host-one}
+use Rattle.demands.proofs.Kept.{host-run-code}
+use Rattle.demands.proofs.Runs.{session-stands, standing-runs}
+use Rattle.demands.proofs.HostRuns.{host-came, host-session}
 use Rattle.demands.proofs.Demands as D
 use Rattle.calls.specs.Promise.{HostClearedBy, HostRanBy}
 use Rattle.assured.specs.Chain.{Chain, ChainOf, upTo}
@@ -43,10 +36,13 @@ module _ (W H n : ℕ) where
     pub chain-stands : Standing W H (weightsOf w) t
     chain-stands = session-stands W H n session
 
+    pub chain-back : bytesOf (weightsOf w) ≡ w
+    chain-back = sym (host-came W H n (chained z) .written)
+
     pub chain-bytes : badBytes W H w ≡ false
     chain-bytes =
         let k = chain-stands .long in
-        let l : length w ≡ 2 * (W * H) = ap length (host-came W H n (chained z) .written) ∙ length-bytesOf (weightsOf w) ∙ ap (λ m. 2 * m) k in
+        let l : length w ≡ 2 * (W * H) = ap length (sym chain-back) ∙ length-bytesOf (weightsOf w) ∙ ap (λ m. 2 * m) k in
         ap not (eq-eqb (length w) (2 * (W * H)) l)
 
     module _ (q room : List ℕ) {r : ℕ} {w′ t′ a′ : List ℕ} (p : HostRanBy W H w t q room r w′ t′ a′) where

@@ -1,21 +1,19 @@
 -- WHAT A LIST CALL WITH CODE 0 HAS RETURNED AND WRITTEN, from its contract. Assumes nothing.
 use mathlib.Core.Path.{_≡_, refl, sym, ap, _∙_}
 use mathlib.Core.Bool.{Bool, true, false, not, cond}
-use mathlib.Core.List.{List, [], _∷_, _++_}
-use Prim.Native.Nat.{ℕ, zero, suc, _+_, _*_, _/_, _%_, _≤_, _<_}
+use mathlib.Core.List.{List}
+use Prim.Native.Nat.{ℕ, _+_, _*_, _/_, _%_, _≤_}
 use native.Mathlib.Omega.{arith}
-use borrow.Author.Tests.{eqb-true, not-false}
+use borrow.Author.Tests.{not-false}
 use lib.Dec.{eqb}
-use lib.IntN.{ℤ}
 use lib.ListN.{length}
-use Rattle.rules.specs.Judging.{Line, _when_, first}
-use Rattle.rules.specs.Surface.{Standing, slots, stands, occupied}
+use Rattle.rules.specs.Judging.{first}
+use Rattle.rules.specs.Surface.{Standing, stands, occupied}
 use Rattle.rules.specs.Empties.{corners}
-use Rattle.rules.specs.Calls.{badSize, badTable, sizeLines, standLines, entriesOf, shortRoom, roomAfter, listLines, listCode, listWith}
+use Rattle.rules.specs.Calls.{badSize, badTable, sizeLines, entriesOf, roomAfter, listLines, listCode, listWith}
 use Rattle.rules.specs.Host.{badBytes, weightsOf, hostList}
-use Rattle.meaning.proofs.Lowest.{first-stop}
 use Rattle.meaning.proofs.Theorems as T
-use Rattle.surface.proofs.CallLaws.{first-none, area, sizes-over}
+use Rattle.surface.proofs.CallLaws.{first-none, area}
 use Rattle.demands.specs.Sessions.{codeOfResult, countOfResult}
 use Rattle.calls.specs.Promise.{Lent, HostListedBy}
 use Rattle.calls.proofs.Laws.{lent-standing}
@@ -30,7 +28,7 @@ counts r m n e l =
     (ap (λ k. k % 65536) a ∙ b, omega arith)
 
 -- none of 1, 2 and 3 applies
-none-of : (bad : Bool) (W H n : ℕ) → badSize W H ≡ false → bad ≡ false → badTable n ≡ false → first (sizeLines bad W H n) ≡ 0
+pub none-of : (bad : Bool) (W H n : ℕ) → badSize W H ≡ false → bad ≡ false → badTable n ≡ false → first (sizeLines bad W H n) ≡ 0
 unfolding first
 none-of bad W H n a b c = rw (a, b, c)
 

@@ -1,21 +1,18 @@
 -- WHAT A REFUSED CALL RETURNS AND LEAVES, from the contracts. Assumes nothing.
-use mathlib.Core.Path.{_≡_, refl, sym, ap, ap₂, _∙_, subst}
-use mathlib.Core.Bool.{Bool, true, false, cond}
+use mathlib.Core.Path.{_≡_, refl, sym, ap, _∙_}
+use mathlib.Core.Bool.{cond}
 use mathlib.Core.List.{List}
-use Prim.Native.Nat.{ℕ, zero, suc, _+_, _*_, _/_, _%_, _≤_, _<_}
+use Prim.Native.Nat.{ℕ, _<_}
 use native.Mathlib.Omega.{arith}
 use lib.Dec.{eqb}
-use lib.IntN.{ℤ}
-use lib.ListN.{length}
 use Rattle.rules.specs.Surface.{usedSlots}
-use Rattle.rules.specs.Judging.{Line}
-use Rattle.rules.specs.Calls.{resultOf, clearLines, clearCode, clearWith, checkLines, checkCode, checkWith, runLines, runCode, runWith, listLines, listCode, listWith}
+use Rattle.rules.specs.Calls.{clearLines, clearCode, clearWith, checkLines, checkCode, checkWith, runLines, runCode, runWith, listLines, listCode, listWith}
 use Rattle.rules.specs.Host.{badBytes, weightsOf, hostClear, hostCheck, hostRun, hostList}
 use Rattle.meaning.proofs.Lowest.{Lowest}
 use Rattle.meaning.proofs.Theorems as T
 use Rattle.demands.specs.Sessions.{codeOfResult, countOfResult}
 use Rattle.demands.proofs.Refusals.{below, first-below}
-use Rattle.demands.proofs.Kept.{clear-kept, check-none, run-kept, list-kept, clear-code-small, run-code-small, list-code-small, host-clear-code, host-clear-kept, host-run-code, host-run-kept, host-list-code, host-list-kept}
+use Rattle.demands.proofs.Kept.{check-none, run-kept, list-kept, clear-code-small, run-code-small, list-code-small, host-clear-code, host-clear-kept, host-run-code, host-run-kept, host-list-code, host-list-kept}
 use Rattle.calls.specs.Promise.{HostClearedBy, HostRanBy, HostListedBy}
 
 module _ (W H : ℕ) (w t : List ℕ) where

@@ -1,21 +1,21 @@
 -- Laws of the calls on bytes: what code 0 says, and each way out. Assumes nothing.
 use mathlib.Core.Path.{_≡_, refl, sym, ap, _∙_, subst}
 use mathlib.Core.Bool.{Bool, true, false, not, cond}
-use mathlib.Core.List.{List, [], _∷_, _++_, append-assoc}
+use mathlib.Core.List.{List, [], _∷_, _++_}
 use Prim.Native.Nat.{ℕ, zero, suc, _+_, _*_, _/_, _≤_, _<_}
 use native.Mathlib.Omega.{arith}
 use borrow.Author.Tests.{eqb-true, eq-eqb, ne-eqb, not-false}
 use lib.Dec.{eqb}
 use lib.IntN.{ℤ}
 use lib.ListN.{length}
-use Rattle.rules.specs.Judging.{Line, _when_, first}
+use Rattle.rules.specs.Judging.{Line, first}
 use Rattle.rules.specs.Surface.{slots, stands, Standing, usedSlots}
 use Rattle.rules.specs.Empties.{corners}
-use Rattle.rules.specs.Calls.{sizeLines, standLines, clearLines, clearCode, clearWith, clearedWeights, clearedTable, entriesOf, shortRoom, roomAfter, resultOf, listLines, listCode, listWith}
+use Rattle.rules.specs.Calls.{sizeLines, clearLines, clearCode, clearWith, clearedWeights, clearedTable, entriesOf, shortRoom, roomAfter, resultOf, Listed, listResult, listWith}
 use Rattle.rules.specs.Host.{badBytes, weightsOf, bytesOf, hostClear, hostCheck, hostList}
-use Rattle.meaning.proofs.Lowest.{first-stop}
+use Rattle.meaning.proofs.Outcomes.{listRefused, listDone, list-refused-is, list-fallen-is, list-short-is, list-done-is}
 use Rattle.surface.specs.Outcome.{Sized}
-use Rattle.surface.proofs.CallLaws.{Good, good, area, sizes-over, check-refused, check-fallen, check-done}
+use Rattle.surface.proofs.CallLaws.{Good, good, area, check-refused, check-fallen, check-done}
 use Rattle.listing.specs.Listed.{listedResult, listedRoom}
 use Rattle.codec.proofs.Laws.{length-weightsOf}
 use Rattle.calls.specs.Promise.{Lent, HostClearedBy, HostListedBy}
@@ -101,43 +101,20 @@ module _ (W H : ℕ) (b t : List ℕ) where
   -- ---- list
 
   module _ (room : List ℕ) where
-    abbrev rest : List Line
-    rest = standLines W H (weightsOf b) t ++ (7 when shortRoom W H t room ∷ [])
-
-    -- the code is the sizes', and then that of the rest
-    code-is : listCode (badBytes W H b) W H (weightsOf b) t room ≡ first (sizes ++ rest)
-    unfolding listCode listLines
-    code-is = ap first (append-assoc sizes (standLines W H (weightsOf b) t) (7 when shortRoom W H t room ∷ []))
-
-    refused : (c : ℕ) → listCode (badBytes W H b) W H (weightsOf b) t room ≡ c → 1 ≤ c → HostListedBy W H b t room c room
-    unfolding hostList listWith
-    refused c e h =
-        let q : eqb (listCode (badBytes W H b) W H (weightsOf b) t room) 0 ≡ false = ne-eqb (listCode (badBytes W H b) W H (weightsOf b) t room) 0 (λ z. omega arith) in
-        record { result = rw q (omega (arith, e)); written = rw q }
+    listed-by : (o : Listed) → listWith (badBytes W H b) W H (weightsOf b) t room ≡ o → (r : ℕ) (room′ : List ℕ) → r ≡ listResult o → room′ ≡ o .room → HostListedBy W H b t room r room′
+    unfolding hostList
+    listed-by o e r room′ p q = record { result = p ∙ ap listResult (sym e); written = q ∙ ap (λ (z : Listed). z .room) (sym e) }
 
     pub listed-refused : (r : ℕ) → r ≡ first sizes → (r ≡ 0 → ⊥) → HostListedBy W H b t room r room
-    listed-refused r e ne = refused r (code-is ∙ first-stop sizes rest (λ z. ne (e ∙ z)) ∙ sym e) (omega arith)
+    listed-refused r e ne = listed-by (listRefused (badBytes W H b) W H (weightsOf b) t room r) (list-refused-is (badBytes W H b) W H (weightsOf b) t room r e ne) r room (let k : r ≡ resultOf r 0 0 = omega arith in k) refl
 
     pub listed-fallen : Lent W H b t → stands W H (weightsOf b) t ≡ false → HostListedBy W H b t room 6 room
-    unfolding first
-    listed-fallen l q = refused 6 (code-is ∙ sizes-over (badBytes W H b) W H (length t) rest (l .right) ∙ rw q) (omega arith)
+    listed-fallen l q = listed-by (listRefused (badBytes W H b) W H (weightsOf b) t room 6) (list-fallen-is (badBytes W H b) W H (weightsOf b) t room (l .right) q) 6 room refl refl
 
     pub listed-done : Lent W H b t → stands W H (weightsOf b) t ≡ true → (r : ℕ) (room′ : List ℕ) → r ≡ listedResult W H t room → room′ ≡ listedRoom W H t room → HostListedBy W H b t room r room′
-    unfolding first listedResult listedRoom
+    unfolding listedResult listedRoom
     listed-done l q r room′ p o = go (shortRoom W H t room) refl
       where
-        code : (c : Bool) → shortRoom W H t room ≡ c → listCode (badBytes W H b) W H (weightsOf b) t room ≡ cond c 7 0
-        code c e = code-is ∙ sizes-over (badBytes W H b) W H (length t) rest (l .right) ∙ rw (q, e)
-
         go : (c : Bool) → shortRoom W H t room ≡ c → HostListedBy W H b t room r room′
-        go true e =
-            let a : r ≡ 7 = p ∙ rw e in
-            let d : room′ ≡ room = o ∙ rw e in
-            rw (a, d) (refused 7 (code true e) (omega arith))
-        go false e =
-            let z : eqb (listCode (badBytes W H b) W H (weightsOf b) t room) 0 ≡ true = eq-eqb (listCode (badBytes W H b) W H (weightsOf b) t room) 0 (code false e) in
-            done z (code false e) (p ∙ rw e) (o ∙ rw e)
-          where
-            done : eqb (listCode (badBytes W H b) W H (weightsOf b) t room) 0 ≡ true → listCode (badBytes W H b) W H (weightsOf b) t room ≡ 0
-                → r ≡ resultOf 0 (length (entriesOf W H t)) (corners W H t) → room′ ≡ roomAfter W H t room → HostListedBy W H b t room r room′
-            done z y a d = unfold hostList listWith in record { result = rw z (omega (arith, a, y)); written = rw z d }
+        go true f = listed-by (listRefused (badBytes W H b) W H (weightsOf b) t room 7) (list-short-is (badBytes W H b) W H (weightsOf b) t room (l .right) q f) r room′ (p ∙ rw f) (o ∙ rw f)
+        go false f = listed-by (listDone (badBytes W H b) W H (weightsOf b) t room) (list-done-is (badBytes W H b) W H (weightsOf b) t room (l .right) q f) r room′ (p ∙ rw f) (o ∙ rw f)

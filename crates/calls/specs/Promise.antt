@@ -1,22 +1,17 @@
 -- What each exported call promises, for any numbers and any bytes: its result and every buffer lent for writing, each as an equation with the
 -- definition of the call on bytes (rules/specs/Host). Buffers lent for reading cannot change.
 use mathlib.Core.Path.{_≡_}
-use mathlib.Core.Bool.{not}
-use mathlib.Core.List.{List, [], _∷_, _++_}
+use mathlib.Core.List.{List, _++_}
 use Prim.Native.Nat.{ℕ}
-use lib.Dec.{eqb}
 use lib.ListN.{length}
-use Rattle.rules.specs.Judging.{Line, _when_, first}
-use Rattle.rules.specs.Calls.{badBlock, sizeLines}
+use Rattle.rules.specs.Judging.{first}
+use Rattle.rules.specs.Calls.{sizeLines}
 use Rattle.rules.specs.Host.{badBytes, hostClear, hostRun, hostList}
+use Rattle.lists.specs.Promise.{blockLines}
 
 -- sizes and lengths are right: codes 1, 2 and 3 do not apply
 pub record Lent (W H : ℕ) (b t : List ℕ) : Type 0 where
   pub right : first (sizeLines (badBytes W H b) W H (length t)) ≡ 0
-
--- 4 and 5, by the lengths of block and answers
-abbrev pub blockLines : ℕ → ℕ → List Line
-blockLines nq na = 4 when badBlock nq ∷ 5 when not (eqb na nq) ∷ []
 
 -- and 4 and 5 neither
 pub record LentBlock (W H : ℕ) (b t q a : List ℕ) : Type 0 where

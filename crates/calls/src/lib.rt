@@ -1,46 +1,17 @@
 // What the C host calls: numbers, and lent bytes. The weights are decoded once a call, and encoded only where something was written.
 ghost use mathlib.Core.Path.{_≡_};
 ghost use Prim.Native.Nat.{ℕ, _+_, _*_, _≤_, _<_};
-ghost use mathlib.Core.Bool.{not};
-ghost use mathlib.Core.List.{_++_};
-ghost use lib.Dec.{eqb};
 ghost use lib.ListN.{length};
-ghost use Rattle.rules.specs.Judging.{first};
-ghost use Rattle.rules.specs.Calls.{badBlock, clearedWeights, sizeLines};
+ghost use Rattle.rules.specs.Calls.{clearedWeights};
 ghost use Rattle.rules.specs.Host.{bytesOf, hostCheck};
-ghost use Rattle.calls.specs.Promise.{blockLines, Lent, LentBlock, HostClearedBy, HostRanBy, HostListedBy};
+ghost use Rattle.calls.specs.Promise.{Lent, LentBlock, HostClearedBy, HostRanBy, HostListedBy};
+use lists::block_code;
 use requests::run::run_on;
 use surface::calls::clear_weights;
 use surface::calls::free_slots;
 use surface::calls::stands;
 use surface::sizes::size_code;
 use surface::slots::used_slots;
-
-fn bad_block(n: usize) -> bool
-    ensures { λ r. ⌜ r ≡ badBlock n ⌝ }
-{
-    if n % 8 != 0 {
-        return true;
-    }
-    512 < n / 8
-}
-
-// The lowest of 1 to 5 that applies, by the lengths of weights, table, block and answers.
-fn block_code(w: usize, h: usize, nw: usize, nt: usize, nq: usize, na: usize) -> u64
-    ensures { λ r. ⌜ r ≡ first (sizeLines (not (eqb nw (2 * (w * h)))) w h nt ++ blockLines nq na) ⌝ }
-{
-    let code = size_code(w, h, nw, 2, nt);
-    if code != 0 {
-        return code;
-    }
-    if bad_block(nq) {
-        return 4;
-    }
-    if na != nq {
-        return 5;
-    }
-    0
-}
 
 fn cleared_on(w: usize, h: usize, a: &mut [i16], b: &mut [u8])
     requires { ⌜ (w ≤ 64) × (h ≤ 64) × (length (now a) ≡ w * h) × (length (now b) ≡ 2 * (w * h)) ⌝ }
@@ -135,6 +106,7 @@ pub extern "C" fn freelist_run(
         w,
         h,
         weights.len(),
+        2,
         table.len(),
         requests.len(),
         answers.len(),

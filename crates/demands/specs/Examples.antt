@@ -1,7 +1,7 @@
 -- EXAMPLES, computed: the history and the frame in worked cases G and H and in the two cases of rules/specs/Examples with a removal and an exchange. After
 -- each request: the modules that the history says are placed, the weights worked out afresh from them, and the cells that the request may have changed.
 use mathlib.Core.Path.{_≡_, refl}
-use mathlib.Core.Bool.{Bool, true, false, not, _&&_, _||_}
+use mathlib.Core.Bool.{Bool, not, _&&_, _||_}
 use mathlib.Core.List.{List, [], _∷_, _++_}
 use Prim.Native.Nat.{ℕ, suc, _+_, _*_, _/_, _%_}
 use lib.Dec.{leb, ltb}
@@ -15,7 +15,7 @@ use Rattle.rules.specs.Calls.{clearedWeights}
 use Rattle.rules.specs.Figures.{caseHolds, eight, e, o}
 use Rattle.rules.specs.declared.Rect.{Rect}
 use Rattle.demands.specs.Frame.{oldSlot, bare}
-use Rattle.demands.specs.History.{Module, moduleAt, codeIn, placeIn, taken, remains, history, historyWeight}
+use Rattle.demands.specs.History.{Module, moduleAt, placeIn, taken, remains, history, historyWeight}
 
 -- ---- the frame as a test (that it says what `MayChange` says is `may-change-is` in proofs/FrameTest)
 
@@ -23,7 +23,7 @@ unfoldable pub reaches : Rect → List ℕ → ℕ → ℕ → Bool
 reaches m t c r = leb (m .x) c && ltb c (m .x + m .w) && leb (m .y) r && every (suc r) (λ j. ltb j (m .y + m .h) || not (occupied t c j))
 
 unfoldable pub mayChange : List ℕ → List ℕ → Rect → ℕ → ℕ → Bool
-mayChange t q r c y = reaches r (bare t q) c y || needsOld q && reaches (rectOf t (oldSlot t q)) (bare t q) c y
+mayChange t q r c y = reaches r (bare t q) c y || (needsOld q && reaches (rectOf t (oldSlot t q)) (bare t q) c y)
 
 -- ---- a block on a cleared surface
 
@@ -85,3 +85,79 @@ g-weights = refl
 pub g-reached : reachings storyG ≡ (4 ∷ 7 ∷ []) ∷ (3 ∷ 4 ∷ 6 ∷ 7 ∷ []) ∷ []
 unfolding caseHolds reaches mayChange
 g-reached = refl
+
+-- ---- H: the same pin, exchanged to 4×1 by each rule: refused, 20. The history keeps the old rectangle
+
+abbrev pub storyH : Story
+storyH = record { w = 3; h = 3; slots = 2; block = pin 7 1 1 1 1 ++ eight 4 0 7 0 4 1 0 0 ++ eight 4 1 7 0 4 1 0 0 ++ eight 4 2 7 0 4 1 0 0 }
+
+abbrev pinnedH : List ℤ
+pinnedH = e 1 ∷ e 1 ∷ e 1 ∷ e 2 ∷ o 1 ∷ e 2 ∷ e 3 ∷ e 1 ∷ e 3 ∷ []
+
+pub h-told : tellings storyH ≡ (moduleAt 7 (rect 1 1 1 1) ∷ []) ∷ (moduleAt 7 (rect 1 1 1 1) ∷ []) ∷ (moduleAt 7 (rect 1 1 1 1) ∷ []) ∷ (moduleAt 7 (rect 1 1 1 1) ∷ []) ∷ []
+unfolding caseHolds history
+h-told = refl
+
+pub h-afresh : reckonings storyH ≡ pinnedH ∷ pinnedH ∷ pinnedH ∷ pinnedH ∷ []
+unfolding caseHolds history taken remains historyWeight
+h-afresh = refl
+
+pub h-weights : weighings storyH ≡ reckonings storyH
+unfolding caseHolds history taken remains historyWeight
+h-weights = refl
+
+-- ---- a removal: one column of four cells, pins at rows 0 and 2, and row 2 freed. The history forgets id 2
+
+abbrev pub storyRemoved : Story
+storyRemoved = record { w = 1; h = 4; slots = 2; block = pin 1 0 0 1 1 ++ pin 2 0 2 1 1 ++ remove 2 }
+
+pub removed-told : tellings storyRemoved ≡ (moduleAt 1 (rect 0 0 1 1) ∷ []) ∷ (moduleAt 2 (rect 0 2 1 1) ∷ moduleAt 1 (rect 0 0 1 1) ∷ []) ∷ (moduleAt 1 (rect 0 0 1 1) ∷ []) ∷ []
+unfolding caseHolds history
+removed-told = refl
+
+pub removed-afresh : reckonings storyRemoved ≡ (o 1 ∷ e 1 ∷ e 2 ∷ e 3 ∷ []) ∷ (o 1 ∷ e 1 ∷ o 1 ∷ e 1 ∷ []) ∷ (o 1 ∷ e 1 ∷ e 2 ∷ e 3 ∷ []) ∷ []
+unfolding caseHolds history taken remains historyWeight
+removed-afresh = refl
+
+pub removed-weights : weighings storyRemoved ≡ reckonings storyRemoved
+unfolding caseHolds history taken remains historyWeight
+removed-weights = refl
+
+-- the first pin: to the bottom edge; the second, and its removal: from row 2 down
+pub removed-reached : reachings storyRemoved ≡ (0 ∷ 1 ∷ 2 ∷ 3 ∷ []) ∷ (2 ∷ 3 ∷ []) ∷ (2 ∷ 3 ∷ []) ∷ []
+unfolding caseHolds reaches mayChange
+removed-reached = refl
+
+-- ---- an exchange: then id 1 gives way to 1×2 at the bottom, and id 5 is pinned at row 0
+
+abbrev pub storyExchanged : Story
+storyExchanged = record { w = 1; h = 4; slots = 3; block = pin 1 0 0 1 1 ++ pin 2 0 2 1 1 ++ remove 2 ++ eight 4 2 1 0 1 2 0 0 ++ pin 5 0 0 1 1 }
+
+pub exchanged-told : tellings storyExchanged
+    ≡ (moduleAt 1 (rect 0 0 1 1) ∷ [])
+    ∷ (moduleAt 2 (rect 0 2 1 1) ∷ moduleAt 1 (rect 0 0 1 1) ∷ [])
+    ∷ (moduleAt 1 (rect 0 0 1 1) ∷ [])
+    ∷ (moduleAt 1 (rect 0 2 1 2) ∷ [])
+    ∷ (moduleAt 5 (rect 0 0 1 1) ∷ moduleAt 1 (rect 0 2 1 2) ∷ [])
+    ∷ []
+unfolding caseHolds history
+exchanged-told = refl
+
+pub exchanged-afresh : reckonings storyExchanged
+    ≡ (o 1 ∷ e 1 ∷ e 2 ∷ e 3 ∷ [])
+    ∷ (o 1 ∷ e 1 ∷ o 1 ∷ e 1 ∷ [])
+    ∷ (o 1 ∷ e 1 ∷ e 2 ∷ e 3 ∷ [])
+    ∷ (e 1 ∷ e 2 ∷ o 1 ∷ o 1 ∷ [])
+    ∷ (o 1 ∷ e 1 ∷ o 1 ∷ o 1 ∷ [])
+    ∷ []
+unfolding caseHolds history taken remains historyWeight
+exchanged-afresh = refl
+
+pub exchanged-weights : weighings storyExchanged ≡ reckonings storyExchanged
+unfolding caseHolds history taken remains historyWeight
+exchanged-weights = refl
+
+-- the exchange: from the old module's top row down, for without it nothing is below; the last pin: down to the occupied row 2 and no further
+pub exchanged-reached : reachings storyExchanged ≡ (0 ∷ 1 ∷ 2 ∷ 3 ∷ []) ∷ (2 ∷ 3 ∷ []) ∷ (2 ∷ 3 ∷ []) ∷ (0 ∷ 1 ∷ 2 ∷ 3 ∷ []) ∷ (0 ∷ 1 ∷ []) ∷ []
+unfolding caseHolds reaches mayChange
+exchanged-reached = refl

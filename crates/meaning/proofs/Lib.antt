@@ -7,3 +7,4 @@ pub mod Weights
 pub mod Corners
 pub mod Choice
 pub mod Lowest
+pub mod Outcomes

@@ -7,9 +7,10 @@ use lib.ListN.{length}
 use Rattle.rules.specs.Surface.{stands}
 use Rattle.rules.specs.Blocks.{State, started, requests, after}
 use Rattle.rules.specs.Host.{weightsOf, bytesOf}
+use Rattle.lists.proofs.BlockLaws.{accepted-few}
 use Rattle.calls.specs.Promise.{Lent}
 use Rattle.calls.proofs.Laws.{lent-long, lent-sized, lent-standing}
-use Rattle.calls.proofs.RunLaws.{block-lent, block-good, accepted-few, ran-fallen, ran-done}
+use Rattle.calls.proofs.RunLaws.{block-lent, block-good, ran-fallen, ran-done}
 use Rattle.calls.proofs.ran_on.Statement.{statement}
 use Rattle.calls.proofs.ran_on.Tie as tie
 

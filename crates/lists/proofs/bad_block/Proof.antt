@@ -1,8 +1,8 @@
 use Prim.Native.Nat.{_/_}
 use borrow.Author.Tests.{eq-eqb, ne-eqb}
 use Rattle.rules.specs.Calls.{badBlock}
-use Rattle.calls.proofs.bad_block.Statement.{statement}
-use Rattle.calls.proofs.bad_block.Tie as tie
+use Rattle.lists.proofs.bad_block.Statement.{statement}
+use Rattle.lists.proofs.bad_block.Tie as tie
 
 returns : tie.Need-returns
 unfolding badBlock

@@ -1,0 +1,63 @@
+-- `freelist::entry_lines` is safe and ends. Assumes nothing.
+use Prim.Native.Nat.{_-_, _*_, _≤_}
+use native.Mathlib.Omega.{arith}
+use Rattle.cells.proofs.Parts.{part-long}
+use Rattle.freelist.proofs.entry_lines.Statement.{statement}
+use Rattle.freelist.proofs.entry_lines.Tie as tie
+
+abbrev Inv-loop : tie.InvT-loop
+Inv-loop room n k₀ k = k ≤ n
+
+abbrev μ-loop : tie.MeasureT-loop
+μ-loop room n k₀ k = n - k
+
+loop-holds : tie.Need-loop-holds Inv-loop μ-loop
+loop-holds c = omega arith
+
+mul-at : tie.Need-mul-at Inv-loop μ-loop
+mul-at c = omega arith
+
+add-end : tie.Need-add-end Inv-loop μ-loop
+add-end c = omega arith
+
+sub-entry-line : tie.Need-sub-entry-line Inv-loop μ-loop
+sub-entry-line c = omega arith
+
+part-entry-line-start : tie.Need-part-entry-line-start Inv-loop μ-loop
+part-entry-line-start c = omega arith
+
+part-entry-line-end : tie.Need-part-entry-line-end Inv-loop μ-loop
+part-entry-line-end c = omega arith
+
+entry-line-requires : tie.Need-entry-line-requires Inv-loop μ-loop
+entry-line-requires c κs = let l = c .before .before .loop in part-long (8 * l .k) 8 (c .before .before .before .before .args .room .now) (omega arith)
+
+add-k : tie.Need-add-k Inv-loop μ-loop
+add-k c = omega arith
+
+loop-less : tie.Need-loop-less Inv-loop μ-loop
+loop-less c = omega arith
+
+loop-again : tie.Need-loop-again Inv-loop μ-loop
+loop-again c = omega arith
+
+returns : tie.Need-returns Inv-loop μ-loop
+returns c = tt
+
+pub entry-lines-spec : {M : Type 1} → statement M
+entry-lines-spec =
+    tie.close
+    (tie.spec
+    Inv-loop
+    μ-loop
+    loop-holds
+    mul-at
+    add-end
+    sub-entry-line
+    part-entry-line-start
+    part-entry-line-end
+    entry-line-requires
+    add-k
+    loop-less
+    loop-again
+    returns)

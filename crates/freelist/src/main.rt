@@ -1,0 +1,185 @@
+// freelist: "It reads request records from standard input and keeps a table of 256 slots." What the records mean is in the crate `stream`; here they are
+// read, in pieces of any size, and the answers and the list printed.
+ghost use mathlib.Core.Path.{_≡_};
+ghost use Prim.Native.Nat.{ℕ, _+_, _*_, _/_, _≤_, _<_};
+ghost use lib.ListN.{length};
+ghost use Rattle.stream.specs.Promise.{Ready};
+use libc::STDIN_FILENO;
+use libc::STDOUT_FILENO;
+use stream::ending::list_kept;
+use stream::pieces::carry;
+use stream::pieces::serve;
+use stream::pieces::whole;
+use stream::records::Size;
+
+fn wide(b: u8) -> u64
+    ensures { λ r. ⌜ (r ≡ b) × (r < 256) ⌝ }
+{
+    b as u64
+}
+
+// The next number of a line.
+fn number(n: u64) {
+    io::write_all(STDOUT_FILENO, b" ");
+    io::print_decimal(STDOUT_FILENO, n);
+}
+
+// Two bytes, low byte first.
+fn number16(low: u8, high: u8) {
+    number(wide(low) + 256 * wide(high));
+}
+
+// `code operation id x y w h`
+fn answer_line(a: &[u8])
+    requires { ⌜ length (now a) ≡ 8 ⌝ }
+{
+    io::print_decimal(STDOUT_FILENO, wide(a[0]));
+    number(wide(a[1]));
+    number16(a[2], a[3]);
+    number(wide(a[4]));
+    number(wide(a[5]));
+    number(wide(a[6]));
+    number(wide(a[7]));
+    io::write_all(STDOUT_FILENO, b"\n");
+}
+
+// "It prints one line a record": the first n answers.
+fn answer_lines(a: &[u8], n: usize)
+    requires { ⌜ (8 * n ≤ length (now a)) × (n ≤ 4096) ⌝ }
+{
+    let mut k = 0;
+    while k < n {
+        let at = 8 * k;
+        let end = at + 8;
+        answer_line(&a[at..end]);
+        k += 1;
+    }
+}
+
+// `m x y w h area`
+fn entry_line(e: &[u8])
+    requires { ⌜ length (now e) ≡ 8 ⌝ }
+{
+    io::write_all(STDOUT_FILENO, b"m");
+    number(wide(e[0]));
+    number(wide(e[1]));
+    number(wide(e[2]));
+    number(wide(e[3]));
+    number16(e[4], e[5]);
+    io::write_all(STDOUT_FILENO, b"\n");
+}
+
+// A line "for each list entry": the first n records of the room.
+fn entry_lines(room: &[u8], n: usize)
+    requires { ⌜ (8 * n ≤ length (now room)) × (n ≤ 4096) ⌝ }
+{
+    let mut k = 0;
+    while k < n {
+        let at = 8 * k;
+        let end = at + 8;
+        entry_line(&room[at..end]);
+        k += 1;
+    }
+}
+
+// `corners C list N`, and `cut N` where bytes remain.
+fn last_lines(corners: u64, entries: u64, left: u64) {
+    io::write_all(STDOUT_FILENO, b"corners");
+    number(corners);
+    io::write_all(STDOUT_FILENO, b" list");
+    number(entries);
+    io::write_all(STDOUT_FILENO, b"\n");
+    if left != 0 {
+        io::write_all(STDOUT_FILENO, b"cut");
+        number(left);
+        io::write_all(STDOUT_FILENO, b"\n");
+    }
+}
+
+// Reads behind the first `held` bytes. The result is how many there are then: as many as before where the input has ended.
+fn read_on(b: &mut [u8], held: usize) -> usize
+    requires { ⌜ held ≤ length (now b) ⌝ }
+    ensures { λ r. ⌜ (held ≤ r) × (r ≤ length (now (b .exit))) ⌝ }
+{
+    let got = libc::read(STDIN_FILENO, &mut b[held..]);
+    held + io::count(got, &b[held..])
+}
+
+// The whole records among the first n bytes are served, and their answers printed.
+fn serve_piece(
+    w: usize,
+    h: usize,
+    s: &mut [i16],
+    t: &mut [u8],
+    b: &[u8],
+    n: usize,
+    a: &mut [u8],
+) -> Size
+    requires { ⌜ Ready w h (now s) (now t) ⌝ }
+    requires { ⌜ (n ≤ length (now b)) × (length (now b) ≡ 4096) × (length (now a) ≡ 4096) ⌝ }
+    ensures { λ r. ⌜ Ready (r .columns) (r .rows) (now (s .exit)) (now (t .exit)) ⌝ }
+{
+    let m = whole(n);
+    let z = serve(w, h, s, t, &b[..m], &mut a[..m]);
+    answer_lines(a, m / 8);
+    z
+}
+
+// The end of the output.
+fn finish(w: usize, h: usize, s: &[i16], t: &[u8], room: &mut [u8], left: usize)
+    requires { ⌜ Ready w h (now s) (now t) ⌝ }
+    requires { ⌜ length (now room) ≡ 32768 ⌝ }
+{
+    let l = list_kept(w, h, s, t, room);
+    entry_lines(room, l.entries);
+    last_lines(l.corners as u64, l.entries as u64, left as u64);
+}
+
+// Nothing says that the input ends, so the turns count down from a number that no run uses up.
+fn run(s: &mut [i16], t: &mut [u8], b: &mut [u8], a: &mut [u8], room: &mut [u8])
+    requires { ⌜ (length (now s) ≡ 4096) × (length (now t) ≡ 2048) × (length (now b) ≡ 4096) × (length (now a) ≡ 4096) × (length (now room) ≡ 32768) ⌝ }
+{
+    let mut w = 0;
+    let mut h = 0;
+    let mut held = 0;
+    let mut turns = u64::MAX;
+    while turns > 0 {
+        let n = read_on(b, held);
+        if n == held {
+            break;
+        }
+        let z = serve_piece(w, h, s, t, b, n, a);
+        w = z.columns;
+        h = z.rows;
+        held = carry(b, n);
+        turns -= 1;
+    }
+    finish(w, h, s, t, room, held);
+}
+
+fn weights() -> [i16; 4096]
+    ensures { λ r. ⌜ 4096 ≡ length r ⌝ }
+{
+    [0; 4096]
+}
+
+fn table() -> [u8; 2048]
+    ensures { λ r. ⌜ 2048 ≡ length r ⌝ }
+{
+    [0; 2048]
+}
+
+fn list_room() -> [u8; 32768]
+    ensures { λ r. ⌜ 32768 ≡ length r ⌝ }
+{
+    [0; 32768]
+}
+
+fn main() {
+    let mut s = weights();
+    let mut t = table();
+    let mut b = io::buffer();
+    let mut a = io::buffer();
+    let mut room = list_room();
+    run(&mut s, &mut t, &mut b, &mut a, &mut room);
+}

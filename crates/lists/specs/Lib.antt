@@ -1,0 +1,2 @@
+-- What the calls on numbers and lent lists promise.
+pub mod Promise

@@ -1,0 +1,47 @@
+-- WHAT THE FUNCTIONS PROMISE of sizes and slices, in the words of `Records`. z is what was kept before.
+use mathlib.Core.Path.{_≡_}
+use mathlib.Core.List.{List}
+use Prim.Native.Nat.{ℕ, _*_, _≤_}
+use lib.IntN.{ℤ}
+use lib.ListN.{length, take}
+use Rattle.rules.specs.Surface.{Standing}
+use Rattle.rules.specs.Requests.{answerOf}
+use Rattle.stream.specs.Records.{Kept, requestStep, afterRequest, answerTo, nextRecord, records, afterRecords, answersTo, entriesKept, cornersKept, listRoom}
+
+-- sizes and slices are as long as the program's, and the surface stands where there is one
+pub record Ready (w h : ℕ) (s : List ℤ) (t : List ℕ) : Type 0 where
+  pub long : length s ≡ 4096
+  pub slots : length t ≡ 2048
+  pub stands : (w ≡ 0 → ⊥) → Standing w h (take (w * h) s) t
+
+-- they are what z says
+pub record Holds (z : Kept) (w h : ℕ) (s : List ℤ) (t : List ℕ) : Type 0 where
+  pub columns : w ≡ z .columns
+  pub rows : h ≡ z .rows
+  pub room : s ≡ z .room
+  pub table : t ≡ z .table
+
+-- a request q of the library is served
+pub record Requested (q : List ℕ) (z : Kept) (s : List ℤ) (t a : List ℕ) : Type 0 where
+  pub holds : Holds (afterRequest q (requestStep q z) z) (z .columns) (z .rows) s t
+  pub answer : a ≡ answerOf q (requestStep q z)
+  pub ready : Ready (z .columns) (z .rows) s t
+
+-- a record q is served
+pub record Served (q : List ℕ) (z : Kept) (w h : ℕ) (s : List ℤ) (t a : List ℕ) : Type 0 where
+  pub holds : Holds (nextRecord q z) w h s t
+  pub answer : a ≡ answerTo q z
+  pub ready : Ready w h s t
+
+-- the records b are served
+pub record ServedAll (b : List ℕ) (z : Kept) (w h : ℕ) (s : List ℤ) (t a : List ℕ) : Type 0 where
+  pub holds : Holds (afterRecords b z (records b)) w h s t
+  pub answers : a ≡ answersTo b z (records b)
+  pub ready : Ready w h s t
+
+-- the list is written, and counted; there is room for it
+pub record ListedBy (z : Kept) (room : List ℕ) (n c : ℕ) (room′ : List ℕ) : Type 0 where
+  pub entries : n ≡ entriesKept z
+  pub corners : c ≡ cornersKept z
+  pub written : room′ ≡ listRoom z room
+  pub fits : 8 * n ≤ length room′
