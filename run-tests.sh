@@ -1,6 +1,7 @@
 #!/bin/sh
-# Runs every test: the brute force and its own tests, the comparison of the definitions with it, the proofs, and the exported calls and
-# the program against the brute force. Exit status 0 and a last line `N passed, 0 failed` when all went well. `run-tests.sh long` compares twenty times as many cases.
+# Runs every test: the brute force and its own tests, the comparison of the definitions with it, the proofs, the exported calls against the brute
+# force, the library as it is installed, and the program. Exit status 0 and a last line `N passed, 0 failed` when all went well. `run-tests.sh long`
+# compares twenty times as many cases.
 set -eu
 cd "$(dirname "$0")"
 . tests/need.sh
@@ -8,6 +9,8 @@ need gcc gcc libc6-dev
 need awk gawk
 need nm binutils
 need valgrind valgrind
+need g++ g++
+need pkg-config pkgconf
 command -v rt >/dev/null 2>&1 || { echo "run-tests.sh: the Rattle toolchain's rt is not on the path"; exit 1; }
 
 build=build
@@ -35,6 +38,9 @@ esac
 echo "== the exported calls against the brute force"
 rt staticlib calls >"$build/archive" 2>&1 || { cat "$build/archive"; exit 1; }
 sh tests/host/run.sh target/staticlib/libcalls.a "$build/host" "${1:-}"
+
+echo "== the library as it is installed"
+sh tests/library/run.sh "$build/library"
 
 echo "== the program against the brute force's"
 sh tests/program/run.sh target/bin/freelist "$build/brute" "$build/program"

@@ -1,0 +1,41 @@
+#!/bin/sh
+# The library as its users get it: run.sh DIRECTORY. Installs it under DIRECTORY/prefix and tests the archive, the header, the pkg-config file and the
+# example host there. Exit status 0 when all went well.
+set -eu
+here=$(dirname "$0")
+. "$here/../need.sh"
+need gcc gcc libc6-dev
+need g++ g++
+need nm binutils
+need pkg-config pkgconf
+
+build=${1:?the directory}
+strict="-O2 -Wall -Wextra -pedantic -Werror"
+rm -rf "$build/prefix"
+mkdir -p "$build"
+sh "$here/../../install.sh" "$build/prefix"
+archive=$build/prefix/lib/libfreelist.a
+
+fail() {
+    echo "tests/library/run.sh: failed: $1"
+    exit 1
+}
+
+calls=$(nm "$archive" | awk '$2 == "T" { print $3 }' | sort | tr '\n' ' ')
+[ "$calls" = "freelist_check freelist_clear freelist_list freelist_run " ] || fail "the archive gives: $calls"
+wanted=$(nm -u "$archive" | awk '$1 == "U" && $2 != "memcpy" && $2 != "memset" { print $2 }')
+[ -z "$wanted" ] || fail "the archive wants: $wanted"
+size "$archive" | awk 'NR > 1 && $2 + $3 != 0 { bad = 1 } END { exit bad }' || fail "the archive has .data or .bss"
+
+echo '#include "freelist.h"' >"$build/alone.c"
+gcc -std=c11 $strict -fsyntax-only -I"$build/prefix/include" "$build/alone.c" || fail "the header in C11"
+cp "$build/alone.c" "$build/alone.cc"
+g++ -std=c++11 $strict -fsyntax-only -I"$build/prefix/include" "$build/alone.cc" || fail "the header in C++"
+
+flags=$(PKG_CONFIG_PATH="$build/prefix/lib/pkgconfig" pkg-config --cflags --libs freelist)
+gcc -std=c11 $strict -o "$build/triggers" "$here/../../examples/triggers.c" $flags
+"$build/triggers" >"$build/triggers.out"
+cmp "$build/triggers.out" "$here/../../examples/triggers.txt" || fail "the example host"
+gcc -std=c11 $strict -o "$build/stack" "$here/stack.c" $flags
+"$build/stack" || fail "the stack"
+echo "the library: archive, header, pkg-config, example host, stack: right"
