@@ -134,9 +134,9 @@ uint64_t freelist_run(uint64_t w, uint64_t h,
 
 /* Lists the maximal empty rectangles: those empty rectangles that no other
  * empty one contains, by bottom row, then right column, then left column. First
- * count: entries. Second: corners, the empty cells in the bottom row or in a row
- * above a module's top row that stand in the last column or have a right
- * neighbour of smaller weight. Writes the entries from the start of room; the
+ * count: entries. Second: corners, the empty cells of the bottom row, and of each
+ * row just above some module's top row, that stand in the last column or have a
+ * right neighbour of smaller weight. Writes the entries from the start of room; the
  * bytes behind them stay. */
 uint64_t freelist_list(uint64_t w, uint64_t h,
                        const uint8_t *weights, uint64_t weights_len,
