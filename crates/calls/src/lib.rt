@@ -35,9 +35,9 @@ fn clear_bytes(w: usize, h: usize, b: &mut [u8])
 pub extern "C" fn freelist_clear(w: usize, h: usize, weights: &mut [u8], table: &mut [u8]) -> u64
     ensures { λ r. ⌜ HostClearedBy w h (now (weights .entry)) (now (table .entry)) r (now (weights .exit)) (now (table .exit)) ⌝ }
 {
-    let code = size_code(w, h, weights.len(), 2, table.len());
-    if code != 0 {
-        return code;
+    let refusal = size_code(w, h, weights.len(), 2, table.len());
+    if refusal != 0 {
+        return refusal;
     }
     clear_bytes(w, h, weights);
     free_slots(table);

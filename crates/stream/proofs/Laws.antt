@@ -102,11 +102,11 @@ held-is z w h s t r = λ j. kept (r .columns j) (r .rows j) (r .room j) (r .tabl
 
 -- ---- clear
 
-front-long : (n : ℕ) (p s : List ℤ) → length p ≡ n → n ≤ 4096 → length s ≡ 4096 → length (onto n p s) ≡ 4096
+pub front-long : (n : ℕ) (p s : List ℤ) → length p ≡ n → n ≤ 4096 → length s ≡ 4096 → length (onto n p s) ≡ 4096
 front-long n p s e h l = simp (length-append, length-drop) (omega arith)
 
 -- the surface at the start of the room
-at-start : (n : ℕ) (p s : List ℤ) → length p ≡ n → take n (onto n p s) ≡ p
+pub at-start : (n : ℕ) (p s : List ℤ) → length p ≡ n → take n (onto n p s) ≡ p
 at-start n p s e = take-at p (drop n s) n e
 
 pub sizes-told : (q : List ℕ) → clearRecordCode q ≡ 0 → badSize (wide q) (high q) ≡ false

@@ -1,16 +1,18 @@
 -- THE STREAM, as theorems about the definitions: each under the sentence that it answers. Assumes nothing.
-use mathlib.Core.Path.{_≡_, refl, sym, ap, ap₂, _∙_}
-use mathlib.Core.List.{List, _++_, append-assoc, append-nil}
-use Prim.Native.Nat.{ℕ, zero, suc, _+_, _*_, _≤_}
+use mathlib.Core.Path.{_≡_, sym, ap, _∙_}
+use mathlib.Core.List.{List, _++_}
+use Prim.Native.Nat.{ℕ, _+_, _*_}
 use native.Mathlib.Omega.{arith}
 use lib.IntN.{ℤ}
-use lib.ListN.{length}
+use lib.ListN.{length, take}
 use Rattle.rules.specs.Requests.{operation, answerOf}
+use Rattle.rules.specs.Blocks.{started, after}
 use Rattle.rules.specs.declared.Step.the-variants.{Refused}
-use Rattle.demands.proofs.Cuts.{request-left, request-right}
-use Rattle.stream.specs.Records.{Kept, clearRecordCode, answerTo, nextRecord, records, afterRecords, answersTo}
-use Rattle.stream.specs.Promise.{ServedAll}
+use Rattle.stream.specs.Records.{Kept, kept, onto, clearRecordCode, answerTo, nextRecord, records, afterRecords, answersTo}
+use Rattle.stream.specs.Promise.{Ready, Requests, ServedAll}
 use Rattle.stream.proofs.Laws.{clear-refused, none-yet}
+use Rattle.stream.proofs.Cuts.{kept-right, answers-right}
+use Rattle.stream.proofs.Blocks.{block-kept, block-answered}
 
 -- "A refused clear changes nothing."
 pub refused-clear-keeps : (q : List ℕ) (z : Kept) → operation q ≡ 5 → (clearRecordCode q ≡ 0 → ⊥) → nextRecord q z ≡ z
@@ -22,35 +24,17 @@ answered-eight q z p n = let r = none-yet q z p n in (r .0, ap (answerOf q) (r .
 
 -- ---- the input may come in pieces of any size: two pieces of whole records, one behind the other, are served as one
 
-module _ (b c : List ℕ) (n : ℕ) (whole : length b ≡ 8 * n) (z : Kept) where
-  kept-left : (k : ℕ) → k ≤ n → afterRecords (b ++ c) z k ≡ afterRecords b z k
-  unfolding afterRecords
-  kept-left zero l = refl
-  kept-left (suc k) l = ap₂ nextRecord (request-left b c n whole k (omega arith)) (kept-left k (omega arith))
-
-  kept-right : (k : ℕ) → afterRecords (b ++ c) z (n + k) ≡ afterRecords c (afterRecords b z n) k
-  unfolding afterRecords
-  kept-right zero = let e : n + 0 ≡ n = omega arith in ap (afterRecords (b ++ c) z) e ∙ kept-left n (omega arith)
-  kept-right (suc k) =
-      let e : n + suc k ≡ suc (n + k) = omega arith in
-      ap (afterRecords (b ++ c) z) e ∙ ap₂ nextRecord (request-right b c n whole k) (kept-right k)
-
-  answers-left : (k : ℕ) → k ≤ n → answersTo (b ++ c) z k ≡ answersTo b z k
-  unfolding answersTo
-  answers-left zero l = refl
-  answers-left (suc k) l = ap₂ _++_ (answers-left k (omega arith)) (ap₂ answerTo (request-left b c n whole k (omega arith)) (kept-left k (omega arith)))
-
-  answers-right : (k : ℕ) → answersTo (b ++ c) z (n + k) ≡ answersTo b z n ++ answersTo c (afterRecords b z n) k
-  unfolding answersTo
-  answers-right zero = let e : n + 0 ≡ n = omega arith in ap (answersTo (b ++ c) z) e ∙ answers-left n (omega arith) ∙ sym (append-nil (answersTo b z n))
-  answers-right (suc k) =
-      let e : n + suc k ≡ suc (n + k) = omega arith in
-      ap (answersTo (b ++ c) z) e ∙ ap₂ _++_ (answers-right k) (ap₂ answerTo (request-right b c n whole k) (kept-right k)) ∙ append-assoc (answersTo b z n) _ _
-
 pub pieces-cut : (b c : List ℕ) (z : Kept) → length b ≡ 8 * records b → (k : ℕ) →
     let y = afterRecords b z (records b) in
     (afterRecords (b ++ c) z (records b + k) ≡ afterRecords c y k) × (answersTo (b ++ c) z (records b + k) ≡ answersTo b z (records b) ++ answersTo c y k)
 pieces-cut b c z e k = (kept-right b c (records b) e z k, answers-right b c (records b) e z k)
+
+-- ---- requests on a surface, one behind the other, are a block of the library: the same weights, table and answers
+
+pub as-a-block : (b : List ℕ) (w h : ℕ) (s : List ℤ) (t : List ℕ) → Ready w h s t → (w ≡ 0 → ⊥) → Requests b (records b) →
+    let u = after w h b (started (take (w * h) s) t) (records b) in
+    (afterRecords b (kept w h s t) (records b) ≡ kept w h (onto (w * h) (u .weights) s) (u .table)) × (answersTo b (kept w h s t) (records b) ≡ u .answers)
+as-a-block b w h s t r n q = (block-kept b w h s t r n (records b) q (records b) (omega arith), block-answered b w h s t r n (records b) q (records b) (omega arith))
 
 -- ---- two outcomes that `serve`'s promise allows are equal
 

@@ -1,11 +1,12 @@
 -- WHAT THE FUNCTIONS PROMISE of sizes and slices, in the words of `Records`. z is what was kept before.
 use mathlib.Core.Path.{_≡_}
 use mathlib.Core.List.{List}
-use Prim.Native.Nat.{ℕ, _*_, _≤_}
+use Prim.Native.Nat.{ℕ, _*_, _≤_, _<_}
 use lib.IntN.{ℤ}
 use lib.ListN.{length, take}
 use Rattle.rules.specs.Surface.{Standing}
-use Rattle.rules.specs.Requests.{answerOf}
+use Rattle.rules.specs.Requests.{operation, answerOf}
+use Rattle.rules.specs.Blocks.{request}
 use Rattle.stream.specs.Records.{Kept, requestStep, afterRequest, answerTo, nextRecord, records, afterRecords, answersTo, entriesKept, cornersKept, listRoom}
 
 -- sizes and slices are as long as the program's, and the surface stands where there is one
@@ -38,6 +39,14 @@ pub record ServedAll (b : List ℕ) (z : Kept) (w h : ℕ) (s : List ℤ) (t a :
   pub holds : Holds (afterRecords b z (records b)) w h s t
   pub answers : a ≡ answersTo b z (records b)
   pub ready : Ready w h s t
+
+-- the first n records of b are requests of the library
+abbrev pub Requests : List ℕ → ℕ → Type 0
+Requests b n = (j : ℕ) → j < n → operation (request b j) ≡ 5 → ⊥
+
+-- the first m records of b are served together: one record; or more, which are requests on the surface that there is
+abbrev pub Together : ℕ → List ℕ → ℕ → Type 0
+Together w b m = (m ≡ 1 → ⊥) → (w ≡ 0 → ⊥) × Requests b m
 
 -- the list is written, and counted; there is room for it
 pub record ListedBy (z : Kept) (room : List ℕ) (n c : ℕ) (room′ : List ℕ) : Type 0 where

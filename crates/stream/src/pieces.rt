@@ -3,11 +3,62 @@ ghost use mathlib.Core.Path.{_≡_};
 ghost use Prim.Native.Nat.{ℕ, _+_, _*_, _/_, _%_, _≤_, _<_};
 ghost use lib.ListN.{length};
 ghost use Rattle.stream.specs.Records.{kept, records, carried};
-ghost use Rattle.stream.specs.Promise.{Ready, ServedAll};
+ghost use Rattle.stream.specs.Promise.{Ready, ServedAll, Requests, Together};
 use super::records::Size;
 use super::records::serve_record;
+use requests::run::run_on;
 
-// The records of a piece in turn, each answered in its own part of the answers. The result is the size of the surface that is kept then.
+// How many records, from the first on, are served together: the requests up to the next clear. A clear, and a record before there is a surface, is
+// served by itself.
+fn together(w: usize, b: &[u8]) -> usize
+    requires { ⌜ (length (now b) ≡ 8 * records (now b)) × (1 ≤ records (now b)) × (records (now b) ≤ 512) ⌝ }
+    ensures { λ m. ⌜ (1 ≤ m) × (m ≤ records (now (b .entry))) × Together w (now (b .entry)) m ⌝ }
+{
+    if w == 0 {
+        return 1;
+    }
+    let n = b.len() / 8;
+    let mut m = 0;
+    while m < n {
+        if b[8 * m] == 5 {
+            break;
+        }
+        m += 1;
+    }
+    if m == 0 {
+        return 1;
+    }
+    m
+}
+
+// Requests of the library, as one block, on the surface that there is.
+fn serve_block(w: usize, h: usize, s: &mut [i16], t: &mut [u8], b: &[u8], a: &mut [u8])
+    requires { ⌜ Ready w h (now s) (now t) ⌝ }
+    requires { ⌜ (length (now b) ≡ 8 * records (now b)) × (records (now b) ≤ 512) × (length (now a) ≡ length (now b)) × (w ≡ 0 → ⊥) × Requests (now b) (records (now b)) ⌝ }
+    ensures { λ _. ⌜ ServedAll (now (b .entry)) (kept w h (now (s .entry)) (now (t .entry))) w h (now (s .exit)) (now (t .exit)) (now (a .exit)) ⌝ }
+{
+    let n = w * h;
+    run_on(w, h, &mut s[..n], t, b, a);
+}
+
+// Records that are served together.
+fn serve_together(w: usize, h: usize, s: &mut [i16], t: &mut [u8], b: &[u8], a: &mut [u8]) -> Size
+    requires { ⌜ Ready w h (now s) (now t) ⌝ }
+    requires { ⌜ (length (now b) ≡ 8 * records (now b)) × (1 ≤ records (now b)) × (records (now b) ≤ 512) × (length (now a) ≡ length (now b)) × Together w (now b) (records (now b)) ⌝ }
+    ensures { λ r. ⌜ ServedAll (now (b .entry)) (kept w h (now (s .entry)) (now (t .entry))) (r .columns) (r .rows) (now (s .exit)) (now (t .exit)) (now (a .exit)) ⌝ }
+{
+    if b.len() == 8 {
+        return serve_record(w, h, s, t, b, a);
+    }
+    serve_block(w, h, s, t, b, a);
+    Size {
+        columns: w,
+        rows: h,
+    }
+}
+
+// The records of a piece in turn, each answered in its own part of the answers; requests between two clears go to the library in blocks. The result is
+// the size of the surface that is kept then.
 pub fn serve(w: usize, h: usize, s: &mut [i16], t: &mut [u8], b: &[u8], a: &mut [u8]) -> Size
     requires { ⌜ Ready w h (now s) (now t) ⌝ }
     requires { ⌜ (length (now b) ≡ 8 * records (now b)) × (records (now b) ≤ 512) × (length (now a) ≡ length (now b)) ⌝ }
@@ -19,11 +70,12 @@ pub fn serve(w: usize, h: usize, s: &mut [i16], t: &mut [u8], b: &[u8], a: &mut 
     let mut k = 0;
     while k < n {
         let at = 8 * k;
-        let end = at + 8;
-        let z = serve_record(columns, rows, s, t, &b[at..end], &mut a[at..end]);
+        let m = together(columns, &b[at..]);
+        let end = at + 8 * m;
+        let z = serve_together(columns, rows, s, t, &b[at..end], &mut a[at..end]);
         columns = z.columns;
         rows = z.rows;
-        k += 1;
+        k += m;
     }
     Size {
         columns: columns,

@@ -3,8 +3,8 @@ use mathlib.Core.Path.{_≡_, refl, sym, _∙_}
 use Prim.Native.Nat.{_+_, _-_, _*_, _≤_}
 use native.Mathlib.Omega.{arith}
 use lib.ListN.{length}
-use Rattle.cells.proofs.Parts.{part-long}
 use Rattle.stream.specs.Records.{kept, records}
+use Rattle.stream.proofs.Blocks.{from-whole, from-fits, lent-part}
 use Rattle.stream.proofs.Turns.{ServedTo, none-served, more-served, served-long, all-served}
 use Rattle.stream.proofs.pieces.serve.Statement.{statement}
 use Rattle.stream.proofs.pieces.serve.Tie as tie
@@ -31,10 +31,21 @@ room c =
     let p = start l .pre .1 in
     (omega (arith, c .loop-test .taken, p .0), omega (arith, c .loop-test .taken, long l), omega (arith, c .loop-test .taken, p .1))
 
-abbrev entered : tie.After-serve-record-arg4 Inv-loop μ-loop → tie.In-loop Inv-loop μ-loop
+-- how many are served together, and what they take
+turn : (c : tie.After-together Inv-loop μ-loop) → let l = c .before .before .before in let e = 8 * l .loop .k + 8 * c .together .result in
+    (1 ≤ c .together .result) × (e ≤ length (start l .args .b .now)) × (e ≤ length (l .loop .a)) × (e ≤ 4096)
+turn c =
+    let i = c .before .before in
+    let l = i .before in
+    let p = start l .pre .1 in
+    let e = c .together .ensures in
+    let f : 8 * l .loop .k + 8 * c .together .result ≤ length (start l .args .b .now) = from-fits (start l .args .b .now) (l .loop .k) (c .together .result) (omega (arith, room i .0)) (e .1) in
+    (e .0, f, omega (arith, f, long l, p .0), omega (arith, f, p .0, p .1))
+
+abbrev entered : tie.After-serve-together-arg4 Inv-loop μ-loop → tie.After-together Inv-loop μ-loop
 entered c = c .before .before .before .before
 
-abbrev served : tie.After-slice-known4 Inv-loop μ-loop → tie.After-serve-record Inv-loop μ-loop
+abbrev served : tie.After-slice-known4 Inv-loop μ-loop → tie.After-serve-together Inv-loop μ-loop
 served c = c .before .before .before .before .before
 
 loop-holds : tie.Need-loop-holds Inv-loop μ-loop
@@ -43,47 +54,63 @@ loop-holds c = let s = c .before .before .before in (omega arith, none-served _ 
 mul-at : tie.Need-mul-at Inv-loop μ-loop
 mul-at c = omega (arith, room c .2)
 
+sub-together : tie.Need-sub-together Inv-loop μ-loop
+sub-together c = omega (arith, room c .0)
+
+part-together-start : tie.Need-part-together-start Inv-loop μ-loop
+part-together-start c = omega (arith, room c .0)
+
+part-together-end : tie.Need-part-together-end Inv-loop μ-loop
+part-together-end c = omega (arith, room c .0)
+
+together-requires : tie.Need-together-requires Inv-loop μ-loop
+together-requires c κs = let i = c .before in let l = i .before in let p = start l .pre .1 in from-whole (start l .args .b .now) (l .loop .k) (records (start l .args .b .now)) (p .0) (i .loop-test .taken) (p .1)
+
+mul-end : tie.Need-mul-end Inv-loop μ-loop
+mul-end c = omega (arith, turn c .3)
+
 add-end : tie.Need-add-end Inv-loop μ-loop
-add-end c = omega (arith, room c .2)
+add-end c = omega (arith, turn c .3)
 
-sub-serve-record : tie.Need-sub-serve-record Inv-loop μ-loop
-sub-serve-record c = omega arith
+sub-serve-together : tie.Need-sub-serve-together Inv-loop μ-loop
+sub-serve-together c = omega arith
 
-part-serve-record-start : tie.Need-part-serve-record-start Inv-loop μ-loop
-part-serve-record-start c = omega (arith, room (c .before .before) .0)
+part-serve-together-start : tie.Need-part-serve-together-start Inv-loop μ-loop
+part-serve-together-start c = omega (arith, turn (c .before .before) .1)
 
-part-serve-record-end : tie.Need-part-serve-record-end Inv-loop μ-loop
-part-serve-record-end c = omega (arith, room (c .before .before) .0)
+part-serve-together-end : tie.Need-part-serve-together-end Inv-loop μ-loop
+part-serve-together-end c = omega (arith, turn (c .before .before) .1)
 
-sub-serve-record-2 : tie.Need-sub-serve-record-2 Inv-loop μ-loop
-sub-serve-record-2 c = omega arith
+sub-serve-together-2 : tie.Need-sub-serve-together-2 Inv-loop μ-loop
+sub-serve-together-2 c = omega arith
 
-part-serve-record-start-2 : tie.Need-part-serve-record-start-2 Inv-loop μ-loop
-part-serve-record-start-2 c = omega (arith, room (c .before .before .before) .1)
+part-serve-together-start-2 : tie.Need-part-serve-together-start-2 Inv-loop μ-loop
+part-serve-together-start-2 c = omega (arith, turn (c .before .before .before) .2)
 
-part-serve-record-end-2 : tie.Need-part-serve-record-end-2 Inv-loop μ-loop
-part-serve-record-end-2 c = omega (arith, room (c .before .before .before) .1)
+part-serve-together-end-2 : tie.Need-part-serve-together-end-2 Inv-loop μ-loop
+part-serve-together-end-2 c = omega (arith, turn (c .before .before .before) .2)
 
-serve-record-requires : tie.Need-serve-record-requires Inv-loop μ-loop
-serve-record-requires c κs =
-    let i = entered c in
-    let l = i .before in
-    let r = room i in
-    (l .loop .inv .1 .ready, (part-long (8 * l .loop .k) 8 (start l .args .b .now) (r .0), part-long (8 * l .loop .k) 8 (l .loop .a) (r .1)))
+serve-together-requires : tie.Need-serve-together-requires Inv-loop μ-loop
+serve-together-requires c κs =
+    let g = entered c in
+    let l = g .before .before .before in
+    let u = turn g in
+    (l .loop .inv .1 .ready, lent-part (start l .args .b .now) (l .loop .a) (l .loop .k) (g .together .result) _ (u .0) (omega (arith, u .3)) (u .1) (u .2) (g .together .ensures .2))
 
 add-k : tie.Need-add-k Inv-loop μ-loop
-add-k c = omega (arith, room (entered (served c .before)) .2)
+add-k c = omega (arith, turn (entered (served c .before)) .3)
 
 loop-less : tie.Need-loop-less Inv-loop μ-loop
-loop-less c = omega (arith, entered (served c .before) .loop-test .taken)
+loop-less c = let g = entered (served c .before) in omega (arith, g .before .before .loop-test .taken, turn g .0)
 
 loop-again : tie.Need-loop-again Inv-loop μ-loop
 loop-again c =
     let v = served c in
-    let i = entered (v .before) in
-    let l = i .before in (
-      omega (arith, i .loop-test .taken),
-      more-served _ _ _ (l .loop .k) _ _ (l .loop .s) (l .loop .t) (l .loop .a) _ _ _ _ _ (v .serve-record .last .1 .1 .1 .1 .1 .0) (l .loop .inv .1) (v .serve-record .ensures) refl,
+    let g = entered (v .before) in
+    let l = g .before .before .before in
+    let u = turn g in (
+      omega (arith, u .1),
+      more-served _ _ _ (l .loop .k) (g .together .result) _ _ (l .loop .s) (l .loop .t) (l .loop .a) _ _ _ _ _ (v .serve-together .last .1 .1 .1 .1 .1 .0) (u .1) (l .loop .inv .1) (v .serve-together .ensures) refl,
     )
 
 same-length : tie.Need-same-length Inv-loop μ-loop
@@ -111,14 +138,19 @@ serve-spec =
     μ-loop
     loop-holds
     mul-at
+    sub-together
+    part-together-start
+    part-together-end
+    together-requires
+    mul-end
     add-end
-    sub-serve-record
-    part-serve-record-start
-    part-serve-record-end
-    sub-serve-record-2
-    part-serve-record-start-2
-    part-serve-record-end-2
-    serve-record-requires
+    sub-serve-together
+    part-serve-together-start
+    part-serve-together-end
+    sub-serve-together-2
+    part-serve-together-start-2
+    part-serve-together-end-2
+    serve-together-requires
     add-k
     loop-less
     loop-again
