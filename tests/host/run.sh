@@ -26,8 +26,11 @@ for part in compare all34 blocks both calls damage lending numbers surfaces; do
     sources="$sources $here/$part.c"
 done
 gcc $flags -o "$build/compare" $sources "$brute" "$archive"
+gcc $flags -o "$build/beside" "$here/beside.c" "$archive"
 gcc $flags -o "$build/wrong_inner_only" "$here/wrong_inner_only.c" "$brute" "$archive"
 
+echo "-- each code given, and withheld just beside"
+"$build/beside"
 for seed in $seeds; do
     echo "-- compare, seed $seed, scale $scale"
     "$build/compare" "$seed" "$scale"
