@@ -8,7 +8,7 @@
 
 #include "freelist.h"
 
-enum { STACK = 1 << 18, MOST = 20 * 1024, W = 64, H = 64, SLOTS = 256, REQUESTS = 512 };
+enum { STACK = 1 << 18, CLEAR = 9 * 1024, OTHERS = 18 * 1024, W = 64, H = 64, SLOTS = 256, REQUESTS = 512 };
 
 static _Alignas(16) uint8_t stack[STACK];
 static uint8_t weights[2 * W * H], table[8 * SLOTS], requests[8 * REQUESTS], answers[8 * REQUESTS], room[8 * W * H];
@@ -40,8 +40,10 @@ static void mix(void)
     }
 }
 
-static int depth(const char *name, void (*call)(void))
+/* The first call is for the linker, which may look memset up on the way. */
+static int depth(const char *name, void (*call)(void), int most)
 {
+    call();
     memset(stack, 0xa5, sizeof stack);
     getcontext(&away);
     away.uc_stack.ss_sp = stack;
@@ -52,18 +54,18 @@ static int depth(const char *name, void (*call)(void))
     int used = STACK;
     while (used > 0 && stack[STACK - used] == 0xa5)
         used--;
-    printf("stack of %s: %d bytes, code %u\n", name, used, freelist_code(result));
-    return freelist_code(result) != 0 || used > MOST;
+    printf("stack of %s: %d bytes of %d, code %u\n", name, used, most, freelist_code(result));
+    return freelist_code(result) != 0 || used > most;
 }
 
 int main(void)
 {
     mix();
-    int bad = depth("freelist_clear", clear);
-    bad |= depth("freelist_run", run);
-    bad |= depth("freelist_check", check);
-    bad |= depth("freelist_list", list);
+    int bad = depth("freelist_clear", clear, CLEAR);
+    bad |= depth("freelist_run", run, OTHERS);
+    bad |= depth("freelist_check", check, OTHERS);
+    bad |= depth("freelist_list", list, OTHERS);
     if (bad)
-        printf("stack: refused, or more than %d bytes\n", MOST);
+        printf("stack: a call is refused, or takes more than the header says\n");
     return bad;
 }
