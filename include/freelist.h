@@ -4,8 +4,8 @@
  * -lfreelist. The library calls memcpy and memset and nothing else. It has no
  * heap, no global and no file, and keeps nothing between calls: everything is
  * in the buffers that you lend. Calls on different buffers may run in different
- * threads at once. freelist_clear takes at most 9 KiB of
- * stack, the other calls 18 KiB (measured by the tests).
+ * threads at once. freelist_clear takes at most 9 KiB of stack, the other calls
+ * 18 KiB (measured by the tests).
  *
  * ---- What you lend -------------------------------------------------------
  *

@@ -43,19 +43,6 @@ fn answer_line(a: &[u8])
     io::write_all(STDOUT_FILENO, b"\n");
 }
 
-// "It prints one line a record": the first n answers.
-fn answer_lines(a: &[u8], n: usize)
-    requires { ⌜ (8 * n ≤ length (now a)) × (n ≤ 4096) ⌝ }
-{
-    let mut k = 0;
-    while k < n {
-        let at = 8 * k;
-        let end = at + 8;
-        answer_line(&a[at..end]);
-        k += 1;
-    }
-}
-
 // `m x y w h area`
 fn entry_line(e: &[u8])
     requires { ⌜ length (now e) ≡ 8 ⌝ }
@@ -69,15 +56,26 @@ fn entry_line(e: &[u8])
     io::write_all(STDOUT_FILENO, b"\n");
 }
 
-// A line "for each list entry": the first n records of the room.
-fn entry_lines(room: &[u8], n: usize)
-    requires { ⌜ (8 * n ≤ length (now room)) × (n ≤ 4096) ⌝ }
+// A record of the list, or an answer.
+fn record_line(r: &[u8], of_list: bool)
+    requires { ⌜ length (now r) ≡ 8 ⌝ }
+{
+    if of_list {
+        entry_line(r);
+        return;
+    }
+    answer_line(r);
+}
+
+// "It prints one line a record", and one "for each list entry": the first n records of eight bytes.
+fn record_lines(b: &[u8], n: usize, of_list: bool)
+    requires { ⌜ (8 * n ≤ length (now b)) × (n ≤ 4096) ⌝ }
 {
     let mut k = 0;
     while k < n {
         let at = 8 * k;
         let end = at + 8;
-        entry_line(&room[at..end]);
+        record_line(&b[at..end], of_list);
         k += 1;
     }
 }
@@ -121,7 +119,7 @@ fn serve_piece(
 {
     let m = whole(n);
     let z = serve(w, h, s, t, &b[..m], &mut a[..m]);
-    answer_lines(a, m / 8);
+    record_lines(a, m / 8, false);
     z
 }
 
@@ -131,7 +129,7 @@ fn finish(w: usize, h: usize, s: &[i16], t: &[u8], room: &mut [u8], left: usize)
     requires { ⌜ length (now room) ≡ 32768 ⌝ }
 {
     let l = list_kept(w, h, s, t, room);
-    entry_lines(room, l.entries);
+    record_lines(room, l.entries, true);
     last_lines(l.corners as u64, l.entries as u64, left as u64);
 }
 

@@ -26,8 +26,8 @@ serve-requires c κs = let s = c .before .before .before .before .before .before
     let y = whole-part _ _ (s .args .a .now) e (omega (arith, p .0, p .1)) (p .2) in
     (s .pre .0, (x .records-whole, x .few, sym (y .long) ∙ x .long))
 
-answer-lines-requires : tie.Need-answer-lines-requires
-answer-lines-requires c κs = search needs
+record-lines-requires : tie.Need-record-lines-requires
+record-lines-requires c κs = search needs
 
 same-length : tie.Need-same-length
 same-length c = search needs
@@ -50,7 +50,7 @@ serve-piece-spec =
     slice-relend-prefix-serve
     slice-aggregate-serve-2
     serve-requires
-    answer-lines-requires
+    record-lines-requires
     same-length
     same-length-2
     same-length-3
