@@ -1,21 +1,35 @@
 -- Laws of signed weights, by cases on ℤ. Assumes nothing.
-use mathlib.Core.Path.{_≡_, refl, sym, subst, subst⁻¹}
+use mathlib.Core.Path.{_≡_, refl, sym, ap, _∙_, subst, subst⁻¹}
+use mathlib.Core.Logic.{⊎-elim}
 use mathlib.Core.Bool.{Bool, true, false, not}
 use Prim.Native.Nat.{ℕ, zero, suc, _+_, _*_, _<_, _≤_, _^_}
 use native.Mathlib.Nat.{mul-le-mul-right, le-mul-of-pos-right, add-mul}
 use native.Mathlib.Omega.{arith}
-use borrow.Author.Tests.{le-ltb, ltb-true}
-use lib.Dec.{T, ltb}
+use borrow.Author.Tests.{le-ltb, ltb-true, eqb-true, eq-eqb}
+use lib.Dec.{T, ltb, eqb}
 use lib.IntN.{ℤ, pos, negsuc, natAbs, negℤ, _-ℤ_, _+ℤ_, +ℤ-idl}
 use lib.Signed.{ltZ, mag, nonNeg}
 use mir.Syntax.{Width, w16, w32, w64}
 use mir.Val.{toZ, ofZ, SFits, Fits}
 use mir.ValLaws.{toZ-ofZ}
+use Rattle.rules.specs.Tests.{eqZ}
+use Rattle.rules.proofs.Tests.{fails, not-both, decide, eqZ-true, eqZ-same}
 use Rattle.cells.specs.Weight.{takenZ, countOf, widthOf}
 
 -- what holds of a number holds of what the machine reads back from its bits
 pub back : (w : Width) (P : ℤ → Type 0) {z : ℤ} → SFits w z → P z → P (toZ w (ofZ w z))
 back w P {z} f p = subst⁻¹ P (toZ-ofZ w z f) p
+
+-- two signed numbers are the same exactly when their bits are
+pub same-bits : (w : Width) (a b : ℤ) → SFits w a → SFits w b → eqb (ofZ w a) (ofZ w b) ≡ eqZ a b
+same-bits w a b f g =
+    ⊎-elim
+    (λ (e : eqb (ofZ w a) (ofZ w b) ≡ true).
+    let q : a ≡ b = sym (toZ-ofZ w a f) ∙ ap (toZ w) (eqb-true (ofZ w a) (ofZ w b) e) ∙ toZ-ofZ w b g in
+    e ∙ sym (ap (λ z. eqZ z b) q ∙ eqZ-same b))
+    (λ (e : eqb (ofZ w a) (ofZ w b) ≡ false).
+    e ∙ sym (fails (eqZ a b) (λ z. not-both (eqb (ofZ w a) (ofZ w b)) (eq-eqb (ofZ w a) (ofZ w b) (ap (ofZ w) (eqZ-true a b z))) e)))
+    (decide (eqb (ofZ w a) (ofZ w b)))
 
 pub taken-test : (z : ℤ) → ltZ z (pos 0) ≡ takenZ z
 taken-test (pos n) = le-ltb n 0 (omega arith)
@@ -38,6 +52,11 @@ pub count-neg : (z : ℤ) → ltZ z (pos 0) ≡ true → 0 ≡ countOf z
 count-neg (pos zero) e = refl
 count-neg (pos (suc n)) e = let h : suc n < 0 = ltb-true (suc n) 0 e in omega arith
 count-neg (negsuc n) e = refl
+
+-- one not below 0 is its count
+pub count-is : (z : ℤ) → ltZ z (pos 0) ≡ false → z ≡ pos (countOf z)
+count-is (pos n) e = refl
+count-is (negsuc n) e = absurd (subst T e tt)
 
 pub wider : {z : ℤ} → SFits w16 z → SFits w32 z
 wider f = record { sfits = let h = f .sfits in omega arith }

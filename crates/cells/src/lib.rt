@@ -1,14 +1,45 @@
 // One weight: signed 16-bit, negative for an occupied cell, a positive count for an empty one. Signed arithmetic stands here and nowhere else.
 ghost use mathlib.Core.Path.{_≡_};
 ghost use Prim.Native.Nat.{ℕ, _+_, _*_, _≤_, _<_};
+ghost use lib.Dec.{ltb};
 ghost use lib.ListN.{length, getD, set};
 ghost use lib.IntN.{ℤ, pos, negℤ};
+ghost use lib.Signed.{ltZ};
+ghost use Rattle.rules.specs.Tests.{eqZ};
 ghost use Rattle.cells.specs.Weight.{takenZ, countOf, widthOf, untaken};
 
 pub fn is_taken(v: i16) -> bool
     ensures { λ r. ⌜ r ≡ takenZ v ⌝ }
 {
     v < 0
+}
+
+// Two weights are the same.
+pub fn is_same(v: i16, m: i16) -> bool
+    ensures { λ r. ⌜ r ≡ eqZ v m ⌝ }
+{
+    v == m
+}
+
+// The first weight is less than the second.
+pub fn is_less(v: i16, m: i16) -> bool
+    ensures { λ r. ⌜ r ≡ ltZ v m ⌝ }
+{
+    v < m
+}
+
+// The count as a weight: 0 of an occupied cell.
+fn height_of(v: i16) -> i16
+    ensures { λ r. ⌜ r ≡ pos (countOf v) ⌝ }
+{
+    if v < 0 { 0 } else { v }
+}
+
+// The first counts less than the second. Without a branch, so that the compiler takes many at a time.
+pub fn is_lower(v: i16, m: i16) -> bool
+    ensures { λ r. ⌜ r ≡ ltb (countOf v) (countOf m) ⌝ }
+{
+    is_less(height_of(v), height_of(m))
 }
 
 pub fn count_of(v: i16) -> usize

@@ -1,11 +1,14 @@
 -- THE WALK OVER THE LIST FINDS THE PLACE THAT THE RULE CHOSE. Assumes nothing.
 use mathlib.Core.Path.{_≡_, refl, sym, ap, _∙_}
-use mathlib.Core.Bool.{Bool, true, false, cond}
+use mathlib.Core.Bool.{Bool, true, false, cond, false≢true}
+use mathlib.Core.Logic.{⊎-elim}
 use mathlib.Core.List.{List, [], _∷_, _++_, map, map-append}
 use mathlib.Core.Option.{Option, none, some}
-use Prim.Native.Nat.{ℕ, suc, _+_}
+use Prim.Native.Nat.{ℕ, zero, suc, _+_, _≤_, _<_}
+use native.Mathlib.Nat.{eq-or-lt-of-le, le-of-suc-le-suc}
 use native.Mathlib.Omega.{arith}
 use lib.Dec.{ltb}
+use borrow.Author.Tests.{le-ltb, eqb-true}
 use Rattle.rules.specs.Tests.{put, keep, chain}
 use Rattle.rules.specs.Empties.{entries}
 use Rattle.rules.specs.Requests.{fits, cost, cheapest, chosenOf, chosen, lowerLeft, standing, rulePlace}
@@ -14,7 +17,7 @@ use Rattle.listing.specs.Row.{Entry, span}
 use Rattle.listing.specs.Listed.{entryRect, entriesIn, rectsIn, listed}
 use Rattle.listing.proofs.Spans.{span-more}
 use Rattle.listing.proofs.List.{entries-listed}
-use Rattle.choice.specs.Best.{choiceOf, placeIn, better, bestOf}
+use Rattle.choice.specs.Best.{choiceOf, placeIn, better, bestOf, unbeaten}
 use Rattle.choice.specs.declared.Best.{Best}
 use Rattle.choice.specs.declared.Best.the-variants.{Found, Nothing}
 
@@ -90,10 +93,49 @@ module _ (W H rule w h : ℕ) where
   unfolding listed chain bestOf
   rows-none occ = refl
 
-  pub rows-more : (occ : ℕ → ℕ → Bool) (y : ℕ) (b b′ : Best) (l : List Entry) → b ≡ best Nothing (listed occ W H y) → l ≡ entriesIn occ W H y →
-      b′ ≡ best b (map (entryRect y) l) → b′ ≡ best Nothing (listed occ W H (y + 1))
-  unfolding listed chain rectsIn
-  rows-more occ y b b′ l p q r =
-      r ∙ ap (λ m. best b (map (entryRect y) m)) q ∙ ap (λ a. best a (rectsIn occ W H y)) p
+  -- row y, by what the buffers hold of it
+  pub row-best : (occ : ℕ → ℕ → Bool) (y : ℕ) (b b′ : Best) (l : List Entry) → l ≡ entriesIn occ W H y → b′ ≡ best b (map (entryRect y) l) → b′ ≡ best b (rectsIn occ W H y)
+  unfolding rectsIn
+  row-best occ y b b′ l p q = q ∙ ap (λ m. best b (map (entryRect y) m)) p
+
+  -- .. and where it has no entry
+  pub row-none : (occ : ℕ → ℕ → Bool) (y : ℕ) (b : Best) → entriesIn occ W H y ≡ [] → b ≡ best b (rectsIn occ W H y)
+  unfolding bestOf
+  row-none occ y b e = row-best occ y b b [] (sym e) refl
+
+  pub rows-more : (occ : ℕ → ℕ → Bool) (y : ℕ) (b b′ : Best) → b ≡ best Nothing (listed occ W H y) → b′ ≡ best b (rectsIn occ W H y) →
+      b′ ≡ best Nothing (listed occ W H (y + 1))
+  unfolding listed chain
+  rows-more occ y b b′ p q =
+      q ∙ ap (λ a. best a (rectsIn occ W H y)) p
       ∙ sym (best-append Nothing (listed occ W H y) (rectsIn occ W H y))
       ∙ ap (λ n. best Nothing (listed occ W H n)) (let e : suc y ≡ y + 1 = omega arith in e)
+
+  -- ---- an entry that costs nothing
+
+  better-unbeaten : (b : Best) (e : Rect) → unbeaten b ≡ true → better W H rule w h b e ≡ b
+  unfolding better
+  better-unbeaten Nothing e q = absurd (false≢true q)
+  better-unbeaten (Found c r) e q = go (fits w h e) (le-ltb (price e) c (let z : c ≡ 0 = eqb-true c 0 q in omega arith))
+    where
+      go : (p : Bool) → ltb (price e) c ≡ false → cond p (cond (ltb (price e) c) (held e) (Found c r)) (Found c r) ≡ Found c r
+      go true k = ap (λ f. cond f (held e) (Found c r)) k
+      go false k = refl
+
+  best-unbeaten : (b : Best) (l : List Rect) → unbeaten b ≡ true → best b l ≡ b
+  unfolding bestOf
+  best-unbeaten b [] q = refl
+  best-unbeaten b (e ∷ l) q = ap (λ a. best a l) (better-unbeaten b e q) ∙ best-unbeaten b l q
+
+  -- THE ROWS BEHIND IT CHANGE NOTHING
+  pub rows-unbeaten : (occ : ℕ → ℕ → Bool) (y n : ℕ) → y ≤ n → unbeaten (best Nothing (listed occ W H y)) ≡ true → best Nothing (listed occ W H y) ≡ best Nothing (listed occ W H n)
+  unfolding listed chain
+  rows-unbeaten occ y zero h q = ap (λ n. best Nothing (listed occ W H n)) (let e : y ≡ 0 = omega arith in e)
+  rows-unbeaten occ y (suc n) h q =
+      ⊎-elim
+      (λ (e : y ≡ suc n). ap (λ n. best Nothing (listed occ W H n)) e)
+      (λ (l : y < suc n).
+      let p = rows-unbeaten occ y n (le-of-suc-le-suc l) q in
+      p ∙ sym (best-unbeaten (best Nothing (listed occ W H n)) (rectsIn occ W H n) (ap unbeaten (sym p) ∙ q))
+      ∙ sym (best-append Nothing (listed occ W H n) (rectsIn occ W H n)))
+      (eq-or-lt-of-le h)

@@ -1,10 +1,10 @@
 -- THE CHOICE BY RULE as one walk over the list: the best entry with room so far, as its cost and the place that it gives. W and H are the surface's
 -- size, w and h the module's.
-use mathlib.Core.Bool.{cond}
+use mathlib.Core.Bool.{Bool, false, cond}
 use mathlib.Core.List.{List, [], _∷_}
 use mathlib.Core.Option.{Option, none, some}
 use Prim.Native.Nat.{ℕ, _+_, _≤_}
-use lib.Dec.{ltb}
+use lib.Dec.{ltb, eqb}
 use Rattle.rules.specs.Requests.{fits, cost, lowerLeft}
 use Rattle.rules.specs.declared.Rect.{Rect}
 use Rattle.choice.specs.declared.Choice.{Choice}
@@ -35,6 +35,11 @@ better W H rule w h b e = cond (fits w h e) (lessOf b (cost W H w h rule e) (low
 unfoldable pub bestOf : ℕ → ℕ → ℕ → ℕ → ℕ → Best → List Rect → Best
 bestOf W H rule w h b [] = b
 bestOf W H rule w h b (e ∷ l) = bestOf W H rule w h (better W H rule w h b e) l
+
+-- an entry that costs nothing is the choice whatever follows: none costs less, and "Ties go to the earlier entry."
+abbrev pub unbeaten : Best → Bool
+unbeaten Nothing = false
+unbeaten (Found c r) = eqb c 0
 
 -- an entry on a surface of at most 64 columns and rows: what its cost asks
 pub record Entered (W H : ℕ) (e : Rect) : Type 0 where

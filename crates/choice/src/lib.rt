@@ -1,14 +1,15 @@
 // The choice by rule (document 002): the list's rows are walked once, and the best entry so far is carried along. No list of entries is built.
 ghost use mathlib.Core.Path.{_≡_};
-ghost use mathlib.Core.Bool.{true};
+ghost use mathlib.Core.Bool.{true, false};
 ghost use mathlib.Core.List.{map};
 ghost use Prim.Native.Nat.{ℕ, _+_, _*_, _≤_, _<_};
 ghost use lib.ListN.{length};
 ghost use Rattle.rules.specs.Surface.{Standing, occupied};
 ghost use Rattle.rules.specs.Requests.{fits, cost as costOf, rulePlace};
 ghost use Rattle.listing.specs.Row.{entry, entryAt, rows};
-ghost use Rattle.listing.specs.Listed.{entryRect, listed, Drawn};
-ghost use Rattle.choice.specs.Best.{Entered, better, bestOf, placeIn, choiceOf};
+ghost use Rattle.listing.specs.Listed.{entryRect, rectsIn, listed, Scans, Drawn};
+ghost use Rattle.choice.specs.Best.{Entered, better, bestOf, unbeaten, placeIn, choiceOf};
+ghost use Rattle.choice.specs.Room.{noneFits, strideOf};
 ghost use Rattle.choice.specs.declared.Best.the-variants.{Nothing};
 use rules::Rect;
 
@@ -118,7 +119,93 @@ fn best_in(
     best
 }
 
-// The list's rows in turn: each is asked for once. scans, lefts, rights and heights hold one row's worth.
+// How many columns a walk goes on from a cell of weight z: "Skipping an occupied run by its weight along one row is right."
+fn stride(z: i16) -> usize
+    ensures { λ r. ⌜ r ≡ strideOf z ⌝ }
+{
+    if z < 0 { cells::width_of(z) } else { 1 }
+}
+
+// Whether row y has mw cells side by side that hold mh or more. An entry with room for the module has: where there are none the row's staircase
+// is not walked.
+fn row_has_room(
+    w: usize,
+    h: usize,
+    weights: &[i16],
+    table: &[u8],
+    y: usize,
+    mw: usize,
+    mh: usize,
+) -> bool
+    requires { ⌜ Standing w h (now weights) (now table) ⌝ }
+    requires { ⌜ y < h ⌝ }
+    ensures { λ r. ⌜ (r ≡ false → noneFits mw mh (rectsIn (occupied (now (table .entry))) w h y) ≡ true) ⌝ }
+{
+    if y + 1 < mh {
+        return false;
+    }
+    let least = cells::counted(mh);
+    let at = y * w;
+    let mut run = 0;
+    let mut x = 0;
+    while x < w {
+        let z = weights[at + x];
+        if z < least {
+            run = 0;
+            x += stride(z);
+        } else {
+            run += 1;
+            if mw <= run {
+                return true;
+            }
+            x += 1;
+        }
+    }
+    false
+}
+
+// The entries of row y in turn, b being the best of the rows above. A row that is not scanned has none, and one without room has none with room.
+fn best_row(
+    w: usize,
+    h: usize,
+    weights: &[i16],
+    table: &[u8],
+    rule: usize,
+    mw: usize,
+    mh: usize,
+    scans: &[u8],
+    y: usize,
+    lefts: &mut [u8],
+    rights: &mut [u8],
+    heights: &mut [u8],
+    b: Best,
+) -> Best
+    requires { ⌜ Standing w h (now weights) (now table) ⌝ }
+    requires { ⌜ (rule ≤ 2) × (y < h) × Scans h (now table) (now scans) ⌝ }
+    requires { ⌜ (w ≤ length (now lefts)) × (w ≤ length (now rights)) × (w ≤ length (now heights)) ⌝ }
+    ensures { λ r. ⌜ r ≡ bestOf w h rule mw mh b (rectsIn (occupied (now (table .entry))) w h y) ⌝ }
+{
+    if scans[y] == 0 {
+        return b;
+    }
+    if !row_has_room(w, h, weights, table, y, mw, mh) {
+        return b;
+    }
+    let n = listing::row(w, h, weights, table, y, lefts, rights, heights);
+    best_in(w, h, mw, mh, rule, y, n, lefts, rights, heights, b)
+}
+
+// An entry that costs nothing is the choice: "Ties go to the earlier entry."
+fn done(b: Best) -> bool
+    ensures { λ r. ⌜ r ≡ unbeaten b ⌝ }
+{
+    let Best::Found(least, _) = b else {
+        return false;
+    };
+    least == 0
+}
+
+// The list's rows in turn, up to an entry that is never beaten. scans, lefts, rights and heights hold one row's worth.
 fn best_on(
     w: usize,
     h: usize,
@@ -141,8 +228,24 @@ fn best_on(
     let mut best = Best::Nothing;
     let mut y = 0;
     while y < h {
-        let n = listing::entries_in(w, h, weights, table, scans, y, lefts, rights, heights);
-        best = best_in(w, h, mw, mh, rule, y, n, lefts, rights, heights, best);
+        best = best_row(
+            w,
+            h,
+            weights,
+            table,
+            rule,
+            mw,
+            mh,
+            scans,
+            y,
+            lefts,
+            rights,
+            heights,
+            best,
+        );
+        if done(best) {
+            return best;
+        }
         y += 1;
     }
     best

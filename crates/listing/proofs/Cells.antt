@@ -7,15 +7,16 @@ use Prim.Native.Nat.{ℕ, zero, suc, _+_, _-_, _*_, _≤_, _<_}
 use native.Mathlib.Nat.{le-refl, mul-comm, mul-le-mul}
 use native.Mathlib.Omega.{arith}
 use lib.Arith.{digits-lt}
-use lib.Dec.{leb, ltb}
+use lib.Dec.{leb, ltb, eqb}
 use lib.IntN.{ℤ, pos, negsuc, negℤ}
 use lib.ListN.{length}
+use lib.Signed.{ltZ}
 use borrow.Author.Tests.{lt-ltb, le-ltb, leb-true, le-leb, not-true}
-use Rattle.rules.specs.Tests.{every}
+use Rattle.rules.specs.Tests.{every, eqZ}
 use Rattle.rules.specs.Surface.{rect, covers, slots, byte, idOf, rectOf, spareZero, usedSlot, freeSlot, holds, occupied, holder, upwards, remaining, weight, cell, soundSlot, slotsSound, Standing}
 use Rattle.rules.specs.declared.Rect.{Rect}
 use Rattle.rules.proofs.Tests.{and-left, and-right, and-both, four-and, or-which, not-both, every-at, any-yes}
-use Rattle.meaning.proofs.Weights.{upwards-le, Within, covers-within, holds-covers, holds-used, holder-low, holder-holds, weight-occupied, weight-empty, stands-cell, stands-slots}
+use Rattle.meaning.proofs.Weights.{upwards-le, upwards-pos, Within, covers-within, holds-covers, holds-used, holder-low, holder-holds, weight-occupied, weight-empty, stands-cell, stands-slots}
 use Rattle.cells.specs.Weight.{takenZ, countOf, widthOf}
 use Rattle.listing.specs.Row.{rows}
 use Rattle.listing.specs.Listed.{heightOf, support, entriesIn, Strides}
@@ -46,6 +47,9 @@ module _ (occ : ℕ → ℕ → Bool) (W y x : ℕ) where
   pub height-taken : occ x y ≡ true → heightOf occ W y x ≡ 0
   height-taken e = ⊎-elim (λ (p : x < W). height-in p ∙ upwards-none occ x y e) (λ (p : W ≤ x). height-past p) (cmp x W)
 
+  pub height-low : heightOf occ W y x ≤ suc y
+  height-low = ⊎-elim (λ (p : x < W). omega (arith, height-in p, upwards-le occ x y)) (λ (p : W ≤ x). omega (arith, height-past p)) (cmp x W)
+
   -- no height, no support
   pub unheld : (H : ℕ) → heightOf occ W y x ≡ 0 → support occ W H y x ≡ false
   unfolding support
@@ -58,6 +62,18 @@ module _ (occ : ℕ → ℕ → Bool) (W y x : ℕ) where
       pos-of : (v : ℕ) → (v ≡ 0 → ⊥) → 0 < v
       pos-of zero n = absurd (n refl)
       pos-of (suc v) n = omega arith
+
+-- an empty cell has a height
+pub open-high : (W : ℕ) (t : List ℕ) (x y : ℕ) → x < W → occupied t x y ≡ false → heightOf (occupied t) W y x ≡ 0 → ⊥
+open-high W t x y p e z = omega (arith, height-in (occupied t) W y x p, upwards-pos t x y e)
+
+-- a cell without one is occupied
+pub none-taken : (W : ℕ) (t : List ℕ) (x y : ℕ) → x < W → heightOf (occupied t) W y x ≡ 0 → occupied t x y ≡ true
+none-taken W t x y p z = go (occupied t x y) refl
+  where
+    go : (b : Bool) → occupied t x y ≡ b → b ≡ true
+    go true e = refl
+    go false e = absurd (open-high W t x y p e z)
 
 module _ (W H : ℕ) (s : List ℤ) (t : List ℕ) (S : Standing W H s t) (x y : ℕ) (px : x < W) (py : y < H) where
   -- the cell's number
@@ -80,6 +96,22 @@ module _ (W H : ℕ) (s : List ℤ) (t : List ℕ) (S : Standing W H s t) (x y :
       go : (b : Bool) → occupied t x y ≡ b → countOf (cell W s x y) ≡ upwards (occupied t) x y
       go true e = ap countOf (is ∙ weight-occupied t x y e .1) ∙ sym (upwards-none (occupied t) x y e)
       go false e = ap countOf (is ∙ weight-empty t x y e)
+
+  -- the cell is empty and has the height u
+  pub stays-is : (u : ℕ) → eqZ (cell W s x y) (pos u) ≡ (not (occupied t x y) && eqb (heightOf (occupied t) W y x) u)
+  stays-is u = go (occupied t x y) refl
+    where
+      go : (b : Bool) → occupied t x y ≡ b → eqZ (cell W s x y) (pos u) ≡ (not b && eqb (heightOf (occupied t) W y x) u)
+      go true e = ap (λ z. eqZ z (pos u)) (is ∙ weight-occupied t x y e .1)
+      go false e = ap (λ z. eqZ z (pos u)) (is ∙ weight-empty t x y e) ∙ ap (λ n. eqb n u) (sym (height-in (occupied t) W y x px))
+
+  -- it has more than the height u
+  pub rises-is : (u : ℕ) → ltZ (pos u) (cell W s x y) ≡ ltb u (heightOf (occupied t) W y x)
+  rises-is u = go (occupied t x y) refl
+    where
+      go : (b : Bool) → occupied t x y ≡ b → ltZ (pos u) (cell W s x y) ≡ ltb u (heightOf (occupied t) W y x)
+      go true e = ap (ltZ (pos u)) (is ∙ weight-occupied t x y e .1) ∙ sym (le-ltb u (heightOf (occupied t) W y x) (omega (arith, height-taken (occupied t) W y x e)))
+      go false e = ap (ltZ (pos u)) (is ∙ weight-empty t x y e) ∙ ap (ltb u) (sym (height-in (occupied t) W y x px))
 
   pub count-low : countOf (cell W s x y) ≤ 64
   count-low = omega (arith, count-is, height-in (occupied t) W y x px, upwards-le (occupied t) x y, S .highest)
@@ -130,11 +162,8 @@ module _ (W H : ℕ) (s : List ℤ) (t : List ℕ) (S : Standing W H s t) (x y :
         record {
           one = omega (arith, in-module .right);
           inside = omega (arith, on-surface, in-module .right);
-          over = λ _ k a b. along k a (omega (arith, in-module .right));
+          over = λ k a b. along k a (omega (arith, in-module .right));
         }
-
-pub one-stride : (occ : ℕ → ℕ → Bool) (W y x : ℕ) → x ≤ W → Strides occ W y x 1
-one-stride occ W y x h = record { one = le-refl 1; inside = omega arith; over = λ p. absurd (omega arith) }
 
 -- a row's buffers hold no more than W entries
 pub row-few : (occ : ℕ → ℕ → Bool) (W H y : ℕ) (ls rs es : List ℕ) (m : ℕ) → rows ls rs es m ≡ entriesIn occ W H y → m ≤ W

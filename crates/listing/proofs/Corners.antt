@@ -5,6 +5,7 @@ use mathlib.Core.Logic.{_⊎_, inl, inr, ⊎-elim}
 use mathlib.Core.List.{List}
 use Prim.Native.Nat.{ℕ, zero, suc, _+_, _-_, _≤_, _<_}
 use native.Mathlib.Nat.{le-refl, eq-or-lt-of-le}
+use native.Mathlib.Numerals.{add-one}
 use native.Mathlib.Omega.{arith}
 use lib.Dec.{ltb, eqb}
 use lib.IntN.{pos, negsuc}
@@ -55,7 +56,7 @@ module _ (W H : ℕ) (t : List ℕ) (y : ℕ) (s : scanned H t y ≡ true) where
           (λ (q : suc x < W). rw (e, s, ne-eqb (suc x) W (λ z. omega arith)) (neighbour x q e))
           (eq-or-lt-of-le p)
 
--- ---- the walk: how many heights among the first x are smaller than the one before
+-- ---- how many heights among the first x are smaller than the one before
 
 unfoldable pub turns : (ℕ → ℕ) → ℕ → ℕ
 turns f zero = 0
@@ -75,48 +76,18 @@ unfolding turns total before
 turns-count f zero = rw (le-ltb (f 0) 0 (omega arith))
 turns-count f (suc w) = ap (λ n. n + cond (ltb (f (suc w)) (f w)) 1 0) (turns-count f w)
 
-pub record Turned (f : ℕ → ℕ) (w n u x : ℕ) : Type 0 where
-  pub upto : x ≤ w + 1
-  pub number : n ≡ turns f x
-  pub last : u ≡ before f x
-
-pub turn-start : (f : ℕ → ℕ) (w : ℕ) → Turned f w 0 0 0
+pub turns-first : (f : ℕ → ℕ) → turns f 1 ≡ 0
 unfolding turns before
-turn-start f w = record { upto = omega arith; number = refl; last = refl }
+turns-first f = rw (le-ltb (f 0) 0 (omega arith))
 
--- over cells without a height nothing turns
-still : (f : ℕ → ℕ) (x j : ℕ) → ((k : ℕ) → x ≤ k → k < x + suc j → f k ≡ 0) → (turns f (x + suc j) ≡ turns f (suc x)) × (before f (x + suc j) ≡ f x)
+pub turns-next : (f : ℕ → ℕ) (c n k z v : ℕ) → n ≡ turns f (c + 1) → k ≡ cond (ltb v z) 1 0 → z ≡ f c → v ≡ f (c + 1) → n + k ≡ turns f (c + 1 + 1)
 unfolding turns before
-still f x zero h = let e : x + suc zero ≡ suc x = omega arith in (ap (turns f) e, ap (before f) e)
-still f x (suc j) h =
-    let e : x + suc (suc j) ≡ suc (x + suc j) = omega arith in
-    let r = still f x j (λ k p q. h k p (omega arith)) in
-    let first : f x ≡ 0 = h x (le-refl x) (omega arith) in
-    let here : f (x + suc j) ≡ 0 = h (x + suc j) (omega arith) (omega arith) in
-    let none : ltb (f (x + suc j)) (before f (x + suc j)) ≡ false = le-ltb (f (x + suc j)) (before f (x + suc j)) (omega (arith, r .1)) in
-    let step : turns f (x + suc j) + cond (ltb (f (x + suc j)) (before f (x + suc j))) 1 0 ≡ turns f (x + suc j) = ap (λ b. turns f (x + suc j) + cond b 1 0) none ∙ omega arith in
-    (ap (turns f) e ∙ step ∙ r .0, ap (before f) e ∙ here ∙ sym first)
-
-pub turn-more : (f : ℕ → ℕ) (w n u x v k d : ℕ) → Turned f w n u x → v ≡ f x → k ≡ cond (ltb v u) 1 0
-    → 1 ≤ d → x + d ≤ w + 1 → (1 < d → (j : ℕ) → x ≤ j → j < x + d → f j ≡ 0) → Turned f w (n + k) v (x + d)
-unfolding turns before
-turn-more f w n u x v k d i ev ek one inside over =
-    let one-more : n + k ≡ turns f (suc x) = rw (ek, ev, i .last, i .number) in
-    ⊎-elim
-    (λ (p : 1 < d).
-    let q : x + suc (d - 1) ≡ x + d = omega arith in
-    let r = still f x (d - 1) (λ j a b. over p j a (omega arith)) in
-    record { upto = inside; number = one-more ∙ sym (r .0) ∙ ap (turns f) q; last = ev ∙ sym (r .1) ∙ ap (before f) q })
-    (λ (p : d ≤ 1).
-    let q : suc x ≡ x + d = omega arith in
-    record { upto = inside; number = one-more ∙ ap (turns f) q; last = ev ∙ ap (before f) q })
-    (cmp 1 d)
+turns-next f c n k z v en ek ez ev = rw (en, ek, ez, ev, add-one c, add-one (suc c))
 
 -- past the last column every corner is counted
-pub turn-end : (W H : ℕ) (t : List ℕ) (y n u x : ℕ) → scanned H t y ≡ true → Turned (heightOf (occupied t) W y) W n u x → W < x → n ≡ count W (λ x. corner W H t x y)
-turn-end W H t y n u x s i h =
-    let q : x ≡ suc W = omega (arith, i .upto) in
-    i .number ∙ ap (turns (heightOf (occupied t) W y)) q ∙ turns-count (heightOf (occupied t) W y) W
+pub turns-corners : (W H : ℕ) (t : List ℕ) (y n : ℕ) → scanned H t y ≡ true → n ≡ turns (heightOf (occupied t) W y) (W + 1) → n ≡ count W (λ x. corner W H t x y)
+turns-corners W H t y n s e =
+    e ∙ ap (turns (heightOf (occupied t) W y)) (add-one W) ∙ turns-count (heightOf (occupied t) W y) W
     ∙ total-same W _ _ (λ k p. ap (λ b. cond b 1 0) (sym (corner-is W H t y s k p)))
 
 pub one-or-none : (b : Bool) → cond b 1 0 ≤ 1

@@ -1,13 +1,14 @@
 -- Entries and corners counted row after row. Assumes nothing.
 use mathlib.Core.Path.{_≡_, refl, sym, ap, ap₂, _∙_}
+use mathlib.Core.Bool.{true, false}
 use mathlib.Core.List.{List, []}
 use Prim.Native.Nat.{ℕ, suc, _+_, _*_, _≤_, _<_}
 use native.Mathlib.Nat.{mul-le-mul}
 use native.Mathlib.Numerals.{add-one}
 use native.Mathlib.Omega.{arith}
 use lib.ListN.{length}
+use lib.Dec.{ltb}
 use lib.IntN.{ℤ}
-use borrow.Author.Tests.{lt-ltb, le-ltb}
 use Rattle.rules.specs.Tests.{total, count}
 use Rattle.rules.specs.Surface.{occupied, Standing}
 use Rattle.rules.specs.Empties.{entries, corner, corners}
@@ -18,37 +19,39 @@ use Rattle.listing.specs.Listed.{rectsIn, listed, listedResult, listedRo
 use Rattle.listing.proofs.List.{entries-listed}
 use Rattle.listing.proofs.Written.{listed-none, listed-grows}
 
--- the rows above y are counted
-pub record Counted (W H : ℕ) (t : List ℕ) (found turns y : ℕ) : Type 0 where
+-- the entries of the rows above y are counted, and their corners
+pub record Found (W H : ℕ) (t : List ℕ) (found y : ℕ) : Type 0 where
   pub upto : y ≤ H
-  pub isFound : found ≡ length (listed (occupied t) W H y)
-  pub isTurns : turns ≡ total y (λ y. count W (λ x. corner W H t x y))
-  pub fewFound : found ≤ 64 * y
-  pub fewTurns : turns ≤ 64 * y
+  pub number : found ≡ length (listed (occupied t) W H y)
+  pub few : found ≤ 64 * y
+
+pub record Turned (W H : ℕ) (t : List ℕ) (turns y : ℕ) : Type 0 where
+  pub number : turns ≡ total y (λ y. count W (λ x. corner W H t x y))
+  pub few : turns ≤ 64 * y
 
 module _ (W H : ℕ) (t : List ℕ) where
-  pub count-start : Counted W H t 0 0 0
-  unfolding total
-  count-start = record { upto = omega arith; isFound = sym (ap length (listed-none (occupied t) W H)); isTurns = refl; fewFound = omega arith; fewTurns = omega arith }
+  pub found-none : Found W H t 0 0
+  found-none = record { upto = omega arith; number = sym (ap length (listed-none (occupied t) W H)); few = omega arith }
 
-  pub count-more : (found turns y n m : ℕ) → Counted W H t found turns y → W ≤ 64 → y < H → n ≡ length (rectsIn (occupied t) W H y) → n ≤ W
-      → m ≡ count W (λ x. corner W H t x y) → m ≤ W → Counted W H t (found + n) (turns + m) (y + 1)
-  unfolding total
-  count-more found turns y n m c w h en ln em lm = record {
-    upto = omega arith;
-    isFound = omega (arith, c .isFound, listed-grows (occupied t) W H y);
-    isTurns = ap₂ _+_ (c .isTurns) em ∙ rw add-one;
-    fewFound = omega (arith, c .fewFound);
-    fewTurns = omega (arith, c .fewTurns);
-  }
+  pub found-more : (found y n : ℕ) → Found W H t found y → W ≤ 64 → y < H → n ≡ length (rectsIn (occupied t) W H y) → n ≤ W → Found W H t (found + n) (y + 1)
+  found-more found y n c w h en ln = record { upto = omega arith; number = omega (arith, c .number, listed-grows (occupied t) W H y); few = omega (arith, c .few) }
 
-  pub count-end : (found turns y : ℕ) → Counted W H t found turns y → H ≤ y → (found ≡ length (entries (occupied t) W H)) × (turns ≡ corners W H t)
+  pub found-all : (found y : ℕ) → Found W H t found y → H ≤ y → found ≡ length (entries (occupied t) W H)
+  found-all found y c h =
+      let q : y ≡ H = omega (arith, c .upto) in
+      c .number ∙ ap (λ n. length (listed (occupied t) W H n)) q ∙ ap length (sym (entries-listed (occupied t) W H))
+
+  pub turned-none : Turned W H t 0 0
+  unfolding total
+  turned-none = record { number = refl; few = omega arith }
+
+  pub turned-more : (turns y m : ℕ) → Turned W H t turns y → W ≤ 64 → m ≡ count W (λ x. corner W H t x y) → m ≤ W → Turned W H t (turns + m) (y + 1)
+  unfolding total
+  turned-more turns y m c w em lm = record { number = ap₂ _+_ (c .number) em ∙ rw add-one; few = omega (arith, c .few) }
+
+  pub turned-all : (turns y : ℕ) → Turned W H t turns y → y ≡ H → turns ≡ corners W H t
   unfolding corners
-  count-end found turns y c h =
-      let q : y ≡ H = omega (arith, c .upto) in (
-        c .isFound ∙ ap (λ n. length (listed (occupied t) W H n)) q ∙ ap length (sym (entries-listed (occupied t) W H)),
-        c .isTurns ∙ ap (λ n. total n (λ y. count W (λ x. corner W H t x y))) q,
-      )
+  turned-all turns y c q = c .number ∙ ap (λ n. total n (λ y. count W (λ x. corner W H t x y))) q
 
 -- both counts are at most 64·64
 pub counts-low : {W H : ℕ} {s : List ℤ} {t : List ℕ} → Standing W H s t → (length (entries (occupied t) W H) ≤ 64 * 64) × (corners W H t ≤ 64 * 64)
@@ -58,15 +61,12 @@ counts-low {W} {H} {s} {t} S =
 
 -- ---- the answer of a listing
 
-module _ (W H : ℕ) (t room : List ℕ) (n m : ℕ) (en : n ≡ length (entries (occupied t) W H)) (em : m ≡ corners W H t) where
-  pub too-short : length room < 8 * n → (7 ≡ listedResult W H t room) × (room ≡ listedRoom W H t room)
+module _ (W H : ℕ) (t room : List ℕ) where
+  pub too-short : ltb (length room) (8 * length (entries (occupied t) W H)) ≡ true → (7 ≡ listedResult W H t room) × (room ≡ listedRoom W H t room)
   unfolding listedResult listedRoom
-  too-short h =
-      let q = lt-ltb (length room) (8 * length (entries (occupied t) W H)) (omega arith) in
-      (rw q, rw q)
+  too-short q = (rw q, rw q)
 
-  pub all-listed : 8 * n ≤ length room → (65536 * n + 4294967296 * m ≡ listedResult W H t room) × (roomAfter W H t room ≡ listedRoom W H t room)
+  pub all-listed : (n m : ℕ) → n ≡ length (entries (occupied t) W H) → m ≡ corners W H t → ltb (length room) (8 * length (entries (occupied t) W H)) ≡ false
+      → (65536 * n + 4294967296 * m ≡ listedResult W H t room) × (roomAfter W H t room ≡ listedRoom W H t room)
   unfolding listedResult listedRoom
-  all-listed h =
-      let q = le-ltb (length room) (8 * length (entries (occupied t) W H)) (omega arith) in
-      (rw (q, en, em) (omega arith), rw q)
+  all-listed n m en em q = (rw (q, en, em) (omega arith), rw q)

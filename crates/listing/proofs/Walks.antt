@@ -2,19 +2,19 @@
 -- Assumes nothing.
 use mathlib.Core.Path.{_≡_, refl, sym, ap, _∙_, subst}
 use mathlib.Core.Logic.{⊎-elim}
-use mathlib.Core.Bool.{Bool, false, cond}
-use mathlib.Core.List.{List, [], _++_, append-nil}
+use mathlib.Core.Bool.{Bool, true, false, cond}
+use mathlib.Core.List.{List, [], _∷_, _++_, append-nil}
 use Prim.Native.Nat.{ℕ, zero, suc, _+_, _-_, _≤_, _<_}
 use native.Mathlib.Nat.{le-refl}
 use native.Mathlib.Numerals.{add-one}
 use native.Mathlib.Omega.{arith}
-use lib.ListN.{length, length-append}
-use lib.Dec.{ltb}
-use borrow.Author.Tests.{le-ltb}
-use Rattle.listing.specs.Row.{Entry, rowEntries, stairs, stairsFrom, reach, leaving, pushed, span, stairAt, entryAt, stack, rows, Rises, CutAt, Rest}
-use Rattle.listing.proofs.Stairs.{cmp, Rising, stairs-rising, push-law, ended, ended-law, count-le, entries-le}
-use Rattle.listing.proofs.Turns.{rest-more}
-use Rattle.listing.proofs.Spans.{length-span, rises, leaving-cut, pushed-zero}
+use lib.ListN.{length, getD, length-append}
+use lib.Dec.{ltb, eqb}
+use borrow.Author.Tests.{lt-ltb, le-ltb, eqb-true, eqb-false}
+use Rattle.listing.specs.Row.{Entry, Stair, before, rowEntries, stairs, stairsFrom, reach, leaving, pushed, span, stairAt, entryAt, stack, rows, Rises, CutAt, Open, Rest}
+use Rattle.listing.proofs.Stairs.{cmp, none-leaves, Rising, stairs-rising, push-law, ended, ended-law, count-le, entries-le}
+use Rattle.listing.proofs.Turns.{rest-more, push-none}
+use Rattle.listing.proofs.Spans.{length-span, span-more, span-next, span-end, rises, cut-none, leaving-cut, pushed-there, pushed-zero}
 
 -- the stairs over the first x cells are held, the rowEntries that ended before x are written, and e is as far as there is support
 pub record Walked (f : ℕ → ℕ) (b : ℕ → Bool) (w : ℕ) (sl₀ sh₀ ls₀ rs₀ es₀ sl sh ls rs es : List ℕ) (n m e x : ℕ) : Type 0 where
@@ -141,16 +141,14 @@ module _ (f : ℕ → ℕ) (b : ℕ → Bool) (bare : (k : ℕ) → f k ≡ 0 �
 
   -- THE WALK MAY JUMP over d cells without a height, the first of which it has seen
   pub walk-jump : {w : ℕ} {sl₀ sh₀ ls₀ rs₀ es₀ sl sh ls rs es : List ℕ} {n m e x : ℕ} → Walked f b w sl₀ sh₀ ls₀ rs₀ es₀ sl sh ls rs es n m e (x + 1) → (d : ℕ)
-      → 1 ≤ d → x + d ≤ w + 1 → (1 < d → (k : ℕ) → x ≤ k → k < x + d → f k ≡ 0) → Walked f b w sl₀ sh₀ ls₀ rs₀ es₀ sl sh ls rs es n m e (x + d)
-  walk-jump {w} {sl₀} {sh₀} {ls₀} {rs₀} {es₀} {sl} {sh} {ls} {rs} {es} {n} {m} {e} {x} i d one inside over =
-      ⊎-elim
-      (λ (p : 1 < d).
+      → 1 ≤ d → x + d ≤ w + 1 → ((k : ℕ) → x ≤ k → k < x + d → f k ≡ 0) → Walked f b w sl₀ sh₀ ls₀ rs₀ es₀ sl sh ls rs es n m e (x + d)
+  walk-jump {x = x} i d one inside over =
       let q : x + suc (d - 1) ≡ x + d = omega arith in
       let z : x + 1 ≡ suc x = omega arith in
       let y : x + d ≡ suc (x + (d - 1)) = omega arith in
-      let r = idle x (d - 1) (λ k u v. over p k u (omega arith)) in
-      let first : stairs f (x + 1) ≡ [] = ap (stairs f) z ∙ no-stairs x (over p x (le-refl x) (omega arith)) in
-      let last : stairs f (x + d) ≡ [] = ap (stairs f) y ∙ no-stairs (x + (d - 1)) (over p (x + (d - 1)) (omega arith) (omega arith)) in
+      let r = idle x (d - 1) (λ k u v. over k u (omega arith)) in
+      let first : stairs f (x + 1) ≡ [] = ap (stairs f) z ∙ no-stairs x (over x (le-refl x) (omega arith)) in
+      let last : stairs f (x + d) ≡ [] = ap (stairs f) y ∙ no-stairs (x + (d - 1)) (over (x + (d - 1)) (omega arith) (omega arith)) in
       record {
         upto = inside;
         long-sl = i .long-sl;
@@ -162,6 +160,266 @@ module _ (f : ℕ → ℕ) (b : ℕ → Bool) (bare : (k : ℕ) → f k ≡ 0 �
         written = i .written ∙ ap (ended f b) z ∙ sym (r .0) ∙ ap (ended f b) q;
         rest = i .rest;
         support = i .support ∙ ap (reach b) z ∙ sym (r .1) ∙ ap (reach b) q;
-      })
-      (λ (p : d ≤ 1). let q : 1 ≡ d = omega arith in subst (λ k. Walked f b w sl₀ sh₀ ls₀ rs₀ es₀ sl sh ls rs es n m e (x + k)) q i)
-      (cmp 1 d)
+      }
+
+-- ---- as far as there is support
+
+pub reach-here : (b : ℕ → Bool) (c : ℕ) → 0 < c → b (c - 1) ≡ true → reach b c ≡ c
+unfolding reach
+reach-here b zero h e = absurd (omega arith)
+reach-here b (suc c) h e = let q : suc c - 1 ≡ c = omega arith in ap (λ t. cond t (suc c) (reach b c)) (ap b (sym q) ∙ e)
+
+pub reach-back : (b : ℕ → Bool) (c : ℕ) → 0 < c → b (c - 1) ≡ false → reach b c ≡ reach b (c - 1)
+unfolding reach
+reach-back b zero h e = absurd (omega arith)
+reach-back b (suc c) h e = let q : suc c - 1 ≡ c = omega arith in ap (λ t. cond t (suc c) (reach b c)) (ap b (sym q) ∙ e) ∙ ap (reach b) (sym q)
+
+-- ---- the highest stair is as high as the cell before
+
+hd : Stair → List Stair → Stair
+hd d [] = d
+hd d (a ∷ l) = a
+
+tl : List Stair → List Stair
+tl [] = []
+tl (a ∷ l) = l
+
+-- a list of one stair
+only : (g : ℕ → Stair) (i n : ℕ) (a : Stair) → span g i n ≡ a ∷ [] → (1 ≤ n) × (g (i + n - 1) ≡ a)
+unfolding span hd
+only g i n a e =
+    let q : n ≡ 1 = sym (length-span g i n) ∙ ap length e in
+    let k : i + 1 - 1 ≡ i = omega arith in
+    (omega arith, rw (q, k) (ap (hd a) (rw q at e)))
+
+top-of : (g : ℕ → Stair) (v x i n : ℕ) (t : List Stair) → span g i n ≡ pushed true v x t → (1 ≤ n) × (g (i + n - 1) .high ≡ v)
+unfolding pushed span tl
+top-of g v x i n [] e = let o = only g i n _ e in (o .0, ap (λ (s : Stair). s .high) (o .1))
+top-of g v x i n (s ∷ t) e = go (λ k q. top-of g v x (suc i) k t q) (ltb (s .high) v) refl n e
+  where
+    go : ((k : ℕ) → span g (suc i) k ≡ pushed true v x t → (1 ≤ k) × (g (suc i + k - 1) .high ≡ v)) → (c : Bool) → ltb (s .high) v ≡ c → (n : ℕ) → span g i n ≡ cond (ltb (s .high) v) (s ∷ pushed true v x t) (record { left = s .left; high = v } ∷ []) → (1 ≤ n) × (g (i + n - 1) .high ≡ v)
+    go ih true q zero e = absurd (let z = ap length (rw q at e) in omega arith)
+    go ih true q (suc n) e =
+        let r = ih n (ap tl (rw q at e)) in
+        let k : suc i + n - 1 ≡ i + suc n - 1 = omega arith in
+        (omega arith, ap (λ j. g j .high) (sym k) ∙ r .1)
+    go ih false q n e = let o = only g i n _ (rw q at e) in (o .0, ap (λ (s : Stair). s .high) (o .1))
+
+-- the height a stands on the top of the n stairs: where it is 0 there are none
+pub record Top (sh : List ℕ) (n a : ℕ) : Type 0 where
+  pub none : a ≡ 0 → n ≡ 0
+  pub some : 0 < a → (1 ≤ n) × (getD sh (n - 1) 0 ≡ a)
+
+stack-top : (f : ℕ → ℕ) (b : ℕ → Bool) → ((k : ℕ) → f k ≡ 0 → b k ≡ false) → (sl sh : List ℕ) (n x : ℕ) → stack sl sh n ≡ stairs f x → Top sh n (before f x)
+unfolding before stairsFrom
+stack-top f b bare sl sh n zero e = record { none = λ _. sym (length-span (stairAt sl sh) 0 n) ∙ ap length e; some = λ h. absurd (omega arith) }
+stack-top f b bare sl sh n (suc p) e = record {
+  none = λ z. sym (length-span (stairAt sl sh) 0 n) ∙ ap length (e ∙ no-stairs f b bare p z);
+  some = λ h.
+      let t = top-of (stairAt sl sh) (f p) p 0 n (stairs f p) (e ∙ push-law f p ∙ ap (λ c. pushed c (f p) p (stairs f p)) (lt-ltb 0 (f p) h)) in
+      let q : 0 + n - 1 ≡ n - 1 = omega arith in
+      (t .0, ap (λ k. getD sh k 0) (sym q) ∙ t .1);
+}
+
+-- ---- what the height does at x
+
+module _ {f : ℕ → ℕ} {b : ℕ → Bool} (bare : (k : ℕ) → f k ≡ 0 → b k ≡ false)
+    {w : ℕ} {sl₀ sh₀ ls₀ rs₀ es₀ sl sh ls rs es : List ℕ} {n m x : ℕ} (i : Walked f b w sl₀ sh₀ ls₀ rs₀ es₀ sl sh ls rs es n m (reach b x) x) where
+  top : Top sh n (before f x)
+  top = stack-top f b bare sl sh n x (i .held)
+
+  kept : Rest ls rs es ls rs es m
+  kept = record { of-lefts = refl; of-rights = refl; of-heights = refl }
+
+  next-reach : reach b (x + 1) ≡ cond (b x) (x + 1) (reach b x)
+  unfolding reach
+  next-reach = rw add-one
+
+  -- above all stairs
+  pub cut-above : (v : ℕ) → before f x < v → CutAt sh n v n
+  cut-above v h = record {
+    within = le-refl n;
+    low = λ j l.
+        ⊎-elim
+        (λ (p : 0 < before f x).
+        let t = top .some p in
+        ⊎-elim
+        (λ (q : j < n - 1). omega (arith, rise i j (n - 1) q (omega arith), t .1))
+        (λ (q : n - 1 ≤ j). let e : n - 1 ≡ j = omega arith in omega (arith, ap (λ k. getD sh k 0) e, t .1))
+        (cmp j (n - 1)))
+        (λ (p : before f x ≤ 0). absurd (omega (arith, top .none (omega arith))))
+        (cmp 0 (before f x));
+    high = λ l. absurd (omega arith);
+  }
+
+  -- it rises: a stair enters
+  pub walk-rise : x ≤ w → (sl′ sh′ : List ℕ) (n′ v : ℕ) → v ≡ f x → before f x < v → length sl′ ≡ length sl → length sh′ ≡ length sh → stack sl′ sh′ n′ ≡ pushed (ltb 0 v) v x (stack sl sh n)
+      → Walked f b w sl₀ sh₀ ls₀ rs₀ es₀ sl′ sh′ ls rs es n′ m (reach b (x + 1)) (x + 1)
+  unfolding leaving
+  walk-rise h sl′ sh′ n′ v ev up q₁ q₂ q =
+      walk-more i h v n (x - 1) sl′ sh′ ls rs es n′ m (reach b (x + 1)) ev (cut-above v up) refl q₁ q₂ refl refl refl
+      (rw (span-end (stairAt sl sh) n n (le-refl n)) (sym (append-nil (rows ls rs es m)))) kept q next-reach
+
+  -- it stays: nothing happens
+  pub walk-stay : x ≤ w → f x ≡ before f x → Walked f b w sl₀ sh₀ ls₀ rs₀ es₀ sl sh ls rs es n m (reach b (x + 1)) (x + 1)
+  unfolding leaving
+  walk-stay h e = ⊎-elim some none (cmp 0 (before f x))
+    where
+      none : before f x ≤ 0 → Walked f b w sl₀ sh₀ ls₀ rs₀ es₀ sl sh ls rs es n m (reach b (x + 1)) (x + 1)
+      none p =
+          let z : n ≡ 0 = top .none (omega arith) in
+          let c = cut-none sh n (f x) 0 (omega arith) (λ l. absurd (omega arith)) in
+          walk-more i h (f x) 0 (x - 1) sl sh ls rs es n m (reach b (x + 1)) refl c refl refl refl refl refl refl
+          (rw (span-end (stairAt sl sh) 0 n (omega arith)) (sym (append-nil (rows ls rs es m)))) kept
+          (ap (stack sl sh) z ∙ push-none sl sh n (f x) 0 x c (omega arith)) next-reach
+
+      some : 0 < before f x → Walked f b w sl₀ sh₀ ls₀ rs₀ es₀ sl sh ls rs es n m (reach b (x + 1)) (x + 1)
+      some p =
+          let t = top .some p in
+          let v = f x in
+          let k = n - 1 in
+          let q : k + 1 ≡ n = omega arith in
+          let high : getD sh k 0 ≡ v = t .1 ∙ sym e in
+          let c : CutAt sh n v k = record { within = omega arith; low = λ j l. omega (arith, rise i j k l (omega arith)); high = λ _. omega arith } in
+          walk-more i h v k (x - 1) sl sh ls rs es n m (reach b (x + 1)) refl c refl refl refl refl refl refl
+          (rw (span-next (stairAt sl sh) k n (omega arith), none-leaves v (reach b x) (x - 1) (stairAt sl sh k) (span (stairAt sl sh) (k + 1) (n - (k + 1))) (omega arith), span-end (stairAt sl sh) (k + 1) n (omega arith)) (sym (append-nil (rows ls rs es m)))) kept
+          (ap (stack sl sh) (sym q) ∙ span-more (stairAt sl sh) k ∙ ap (λ a. stack sl sh k ++ (record { left = getD sl k 0; high = a } ∷ [])) high
+          ∙ sym (ap (λ d. pushed d v x (stack sl sh n)) (lt-ltb 0 v (omega arith)) ∙ pushed-there sl sh n v k c x ∙ ap (λ d. stack sl sh k ++ (record { left = cond d (getD sl k 0) x; high = v } ∷ [])) (lt-ltb k n (omega arith)))) next-reach
+
+-- ---- THE INVARIANT: u is the height before x; e is as far as there is support among the first lo cells, and from lo on all are empty
+
+pub record Going (f : ℕ → ℕ) (b : ℕ → Bool) (w : ℕ) (sl₀ sh₀ ls₀ rs₀ es₀ sl sh ls rs es : List ℕ) (n m e u lo x : ℕ) : Type 0 where
+  pub walked : Walked f b w sl₀ sh₀ ls₀ rs₀ es₀ sl sh ls rs es n m (reach b x) x
+  pub inside : x ≤ w
+  pub last : u ≡ before f x
+  pub settled : e ≡ reach b lo
+  pub from : lo ≤ x
+  pub empty : Open f lo x
+
+pub go-start : (f : ℕ → ℕ) (b : ℕ → Bool) (w : ℕ) (sl sh ls rs es : List ℕ) → Going f b w sl sh ls rs es sl sh ls rs es 0 0 0 0 0 0
+unfolding reach before
+go-start f b w sl sh ls rs es = record {
+  walked = walk-start f b w sl sh ls rs es;
+  inside = omega arith;
+  last = refl;
+  settled = refl;
+  from = omega arith;
+  empty = λ c p q. absurd (omega arith);
+}
+
+before-next : (f : ℕ → ℕ) (x : ℕ) → before f (x + 1) ≡ f x
+unfolding before
+before-next f x = rw add-one
+
+pub before-low : (f : ℕ → ℕ) (n : ℕ) → ((k : ℕ) → f k ≤ n) → (x : ℕ) → before f x ≤ n
+unfolding before
+before-low f n h zero = omega arith
+before-low f n h (suc x) = h x
+
+-- one cell more that is empty
+open-more : (f : ℕ → ℕ) (lo x : ℕ) → Open f lo x → (f x ≡ 0 → ⊥) → Open f lo (x + 1)
+open-more f lo x o n c p q = ⊎-elim (λ (l : c < x). o c p l) (λ (l : x ≤ c). λ z. n (ap f (let e : x ≡ c = omega arith in e) ∙ z)) (cmp c x)
+
+open-none : (f : ℕ → ℕ) (x : ℕ) → Open f x x
+open-none f x c p q = absurd (omega arith)
+
+-- after a cell without a height there is no empty one yet
+open-here : (f : ℕ → ℕ) (lo x : ℕ) → before f x ≡ 0 → lo ≤ x → Open f lo x → lo ≡ x
+unfolding before
+open-here f lo zero z h o = omega arith
+open-here f lo (suc p) z h o = ⊎-elim (λ (l : lo < suc p). absurd (o p (omega arith) (omega arith) z)) (λ (l : suc p ≤ lo). omega arith) (cmp lo (suc p))
+
+module _ {f : ℕ → ℕ} {b : ℕ → Bool} (bare : (k : ℕ) → f k ≡ 0 → b k ≡ false)
+    {w : ℕ} {sl₀ sh₀ ls₀ rs₀ es₀ sl sh ls rs es : List ℕ} {n m e u lo x : ℕ} (i : Going f b w sl₀ sh₀ ls₀ rs₀ es₀ sl sh ls rs es n m e u lo x) where
+  no-reach : f x ≡ 0 → reach b (x + 1) ≡ reach b x
+  no-reach z = next-reach bare (i .walked) ∙ ap (λ t. cond t (x + 1) (reach b x)) (bare x z)
+
+  module _ (h : x < w) where
+    pub go-stay : f x ≡ u → (f x ≡ 0 → ⊥) → Going f b w sl₀ sh₀ ls₀ rs₀ es₀ sl sh ls rs es n m e u lo (x + 1)
+    go-stay q ne = record {
+      walked = walk-stay bare (i .walked) (i .inside) (q ∙ i .last);
+      inside = omega arith;
+      last = sym q ∙ sym (before-next f x);
+      settled = i .settled;
+      from = omega (arith, i .from);
+      empty = open-more f lo x (i .empty) ne;
+    }
+
+    pub go-rise : (sl′ sh′ : List ℕ) (n′ v : ℕ) → v ≡ f x → u < v → length sl′ ≡ length sl → length sh′ ≡ length sh → stack sl′ sh′ n′ ≡ pushed (ltb 0 v) v x (stack sl sh n)
+        → Going f b w sl₀ sh₀ ls₀ rs₀ es₀ sl′ sh′ ls rs es n′ m e v lo (x + 1)
+    go-rise sl′ sh′ n′ v ev up q₁ q₂ q = record {
+      walked = walk-rise bare (i .walked) (i .inside) sl′ sh′ n′ v ev (omega (arith, i .last)) q₁ q₂ q;
+      inside = omega arith;
+      last = ev ∙ sym (before-next f x);
+      settled = i .settled;
+      from = omega (arith, i .from);
+      empty = open-more f lo x (i .empty) (λ z. omega arith);
+    }
+
+    pub go-skip : u ≡ 0 → (d : ℕ) → 1 ≤ d → x + d ≤ w → ((k : ℕ) → x ≤ k → k < x + d → f k ≡ 0) → Going f b w sl₀ sh₀ ls₀ rs₀ es₀ sl sh ls rs es n m e u (x + d) (x + d)
+    go-skip z d one inside over = record {
+      walked = subst (λ k. Walked f b w sl₀ sh₀ ls₀ rs₀ es₀ sl sh ls rs es n m k (x + d)) (jumped .support) jumped;
+      inside = inside;
+      last = z ∙ sym (ap (before f) q ∙ before-next f (x + (d - 1)) ∙ over (x + (d - 1)) (omega arith) (omega arith));
+      settled = i .settled ∙ ap (reach b) (open-here f lo x (sym (i .last) ∙ z) (i .from) (i .empty)) ∙ sym (no-reach first) ∙ jumped .support;
+      from = le-refl (x + d);
+      empty = open-none f (x + d);
+    }
+      where
+        first : f x ≡ 0
+        first = over x (le-refl x) (omega arith)
+
+        q : x + d ≡ x + (d - 1) + 1
+        q = omega arith
+
+        jumped : Walked f b w sl₀ sh₀ ls₀ rs₀ es₀ sl sh ls rs es n m (reach b (x + 1)) (x + d)
+        jumped = walk-jump f b bare (walk-stay bare (i .walked) (i .inside) (first ∙ sym z ∙ i .last)) d one (omega arith) over
+
+    pub go-fall : (v k r e′ lo′ : ℕ) (sl′ sh′ ls′ rs′ es′ : List ℕ) (n′ m′ : ℕ) → v ≡ f x → CutAt sh n v k → r ≡ x - 1
+        → length sl′ ≡ length sl → length sh′ ≡ length sh → length ls′ ≡ length ls → length rs′ ≡ length rs → length es′ ≡ length es → e′ ≡ reach b x
+        → rows ls′ rs′ es′ m′ ≡ rows ls rs es m ++ leaving v e′ r (span (stairAt sl sh) k (n - k))
+        → Rest ls rs es ls′ rs′ es′ m′
+        → stack sl′ sh′ n′ ≡ pushed (ltb 0 v) v x (stack sl sh n)
+        → lo′ ≡ cond (eqb v 0) (x + 1) x
+        → Going f b w sl₀ sh₀ ls₀ rs₀ es₀ sl′ sh′ ls′ rs′ es′ n′ m′ e′ v lo′ (x + 1)
+    go-fall v k r e′ lo′ sl′ sh′ ls′ rs′ es′ n′ m′ ev c er q₁ q₂ q₃ q₄ q₅ ee out kept′ in′ el = go (eqb v 0) refl
+      where
+        there : Walked f b w sl₀ sh₀ ls₀ rs₀ es₀ sl′ sh′ ls′ rs′ es′ n′ m′ (reach b (x + 1)) (x + 1)
+        there =
+            walk-more (i .walked) (i .inside) v k r sl′ sh′ ls′ rs′ es′ n′ m′ (reach b (x + 1)) ev c er q₁ q₂ q₃ q₄ q₅
+            (out ∙ ap (λ a. rows ls rs es m ++ leaving v a r (span (stairAt sl sh) k (n - k))) ee) kept′ in′ (next-reach bare (i .walked))
+
+        go : (t : Bool) → eqb v 0 ≡ t → Going f b w sl₀ sh₀ ls₀ rs₀ es₀ sl′ sh′ ls′ rs′ es′ n′ m′ e′ v lo′ (x + 1)
+        go true t =
+            let l : lo′ ≡ x + 1 = el ∙ ap (λ a. cond a (x + 1) x) t in
+            record {
+              walked = there;
+              inside = omega arith;
+              last = ev ∙ sym (before-next f x);
+              settled = ee ∙ sym (no-reach (sym ev ∙ eqb-true v 0 t)) ∙ ap (reach b) (sym l);
+              from = omega arith;
+              empty = subst (λ a. Open f a (x + 1)) (sym l) (open-none f (x + 1));
+            }
+        go false t =
+            let l : lo′ ≡ x = el ∙ ap (λ a. cond a (x + 1) x) t in
+            record {
+              walked = there;
+              inside = omega arith;
+              last = ev ∙ sym (before-next f x);
+              settled = ee ∙ ap (reach b) (sym l);
+              from = omega arith;
+              empty = subst (λ a. Open f a (x + 1)) (sym l) (open-more f x x (open-none f x) (λ z. eqb-false v 0 t (ev ∙ z)));
+            }
+
+  -- past the last column all leave
+  pub go-end : w ≤ x → f w ≡ 0 → (r e′ m′ : ℕ) (ls′ rs′ es′ : List ℕ) → r ≡ w - 1 → e′ ≡ reach b w
+      → length ls′ ≡ length ls → length rs′ ≡ length rs → length es′ ≡ length es
+      → rows ls′ rs′ es′ m′ ≡ rows ls rs es m ++ leaving 0 e′ r (span (stairAt sl sh) 0 (n - 0)) → Rest ls rs es ls′ rs′ es′ m′
+      → (rows ls′ rs′ es′ m′ ≡ rowEntries f b w) × Rest ls₀ rs₀ es₀ ls′ rs′ es′ m′
+  go-end h z r e′ m′ ls′ rs′ es′ er ee q₃ q₄ q₅ out kept′ =
+      let q : x ≡ w = omega (arith, i .inside) in
+      let c = cut-none sh n 0 0 (omega arith) (λ l. omega arith) in
+      let ends =
+      walk-more (i .walked) (i .inside) 0 0 r sl sh ls′ rs′ es′ 0 m′ (reach b (x + 1)) (sym (ap f q ∙ z)) c (er ∙ ap (λ a. a - 1) (sym q)) refl refl q₃ q₄ q₅
+      (out ∙ ap (λ a. rows ls rs es m ++ leaving 0 a r (span (stairAt sl sh) 0 (n - 0))) (ee ∙ ap (reach b) (sym q))) kept′ (push-none sl sh n 0 0 x c refl) (next-reach bare (i .walked)) in
+      (walk-end ends (omega arith), ends .rest)

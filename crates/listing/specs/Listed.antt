@@ -38,11 +38,11 @@ rectsIn occ W H y = map (entryRect y) (entriesIn occ W H y)
 unfoldable pub listed : (ℕ → ℕ → Bool) → ℕ → ℕ → ℕ → List Rect
 listed occ W H n = chain n (rectsIn occ W H)
 
--- d columns on from x in row y: one, or as many as are occupied there without a gap, x itself included. Past the last column is the end
+-- an occupied run of row y: d columns from x on, all on the surface
 pub record Strides (occ : ℕ → ℕ → Bool) (W y x d : ℕ) : Type 0 where
   pub one : 1 ≤ d
-  pub inside : x + d ≤ W + 1
-  pub over : 1 < d → (k : ℕ) → x ≤ k → k < x + d → occ k y ≡ true
+  pub inside : x + d ≤ W
+  pub over : (k : ℕ) → x ≤ k → k < x + d → occ k y ≡ true
 
 -- scans has 1 at y where row y is scanned, and 0 where it is not
 pub record Scans (H : ℕ) (t scans : List ℕ) : Type 0 where

@@ -108,6 +108,10 @@ pub record CutAt (sh : List ℕ) (n v k : ℕ) : Type 0 where
   pub low : (j : ℕ) → j < k → getD sh j 0 < v
   pub high : k < n → v ≤ getD sh k 0
 
+-- the cells lo .. x - 1 have a height: they are empty
+abbrev pub Open : (ℕ → ℕ) → ℕ → ℕ → Type 0
+Open f lo x = (c : ℕ) → lo ≤ c → c < x → f c ≡ 0 → ⊥
+
 -- from n on three lists are as they were
 pub record Rest (ls₀ rs₀ hs₀ ls rs hs : List ℕ) (n : ℕ) : Type 0 where
   pub of-lefts : drop n ls ≡ drop n ls₀

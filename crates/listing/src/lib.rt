@@ -1,28 +1,51 @@
 // The list: each scanned row's entries by the staircase of document 000, then the rows one behind the other.
 ghost use mathlib.Core.Path.{_≡_};
-ghost use mathlib.Core.Bool.{cond, true};
+ghost use mathlib.Core.Bool.{cond, true, not, _&&_};
 ghost use mathlib.Core.List.{_++_, map};
 ghost use Prim.Native.Nat.{ℕ, suc, _+_, _-_, _*_, _≤_, _<_};
 ghost use lib.ListN.{length, getD};
-ghost use lib.Dec.{ltb};
+ghost use lib.Dec.{ltb, eqb};
 ghost use Rattle.rules.specs.Tests.{count};
 ghost use Rattle.rules.specs.Surface.{Standing, occupied, slots};
 ghost use Rattle.rules.specs.Empties.{scanned, corner, corners, entries, entryRecord, entryRecords};
 ghost use Rattle.rules.specs.Calls.{roomAfter};
-ghost use Rattle.listing.specs.Row.{entry, entryAt, stairAt, stack, rows, span, pushed, leaving, Rises, CutAt, Rest};
+ghost use Rattle.listing.specs.Row.{entry, entryAt, stairAt, stack, rows, span, pushed, leaving, reach, Rises, CutAt, Rest, Open};
 ghost use Rattle.listing.specs.Listed.{heightOf, support, entryRect, entriesIn, rectsIn, Strides, Scans, Unmarked, Marks, written, Drawn, recordsIn, listedResult, listedRoom};
 
-// The height over column x of row y: the count of an empty cell, 0 for an occupied one and past the last column.
+// The height over column x of row y: the count of an empty cell, 0 for an occupied one.
 fn height_at(w: usize, h: usize, weights: &[i16], table: &[u8], y: usize, x: usize) -> u8
     requires { ⌜ Standing w h (now weights) (now table) ⌝ }
-    requires { ⌜ y < h ⌝ }
+    requires { ⌜ (y < h) × (x < w) ⌝ }
     ensures { λ r. ⌜ r ≡ heightOf (occupied (now (table .entry))) w y x ⌝ }
 {
-    if x < w {
-        cells::count_at(weights, y * w + x) as u8
-    } else {
-        0
-    }
+    cells::count_at(weights, y * w + x) as u8
+}
+
+// Whether cell (x, y) is empty and has the height u.
+fn stays(w: usize, h: usize, weights: &[i16], table: &[u8], y: usize, x: usize, u: usize) -> bool
+    requires { ⌜ Standing w h (now weights) (now table) ⌝ }
+    requires { ⌜ (y < h) × (x < w) × (u ≤ 64) ⌝ }
+    ensures { λ r. ⌜ r ≡ (not (occupied (now (table .entry)) x y) && eqb (heightOf (occupied (now (table .entry))) w y x) u) ⌝ }
+{
+    cells::is_same(weights[y * w + x], cells::counted(u))
+}
+
+// Whether it has more than the height u.
+fn rises(w: usize, h: usize, weights: &[i16], table: &[u8], y: usize, x: usize, u: usize) -> bool
+    requires { ⌜ Standing w h (now weights) (now table) ⌝ }
+    requires { ⌜ (y < h) × (x < w) × (u ≤ 64) ⌝ }
+    ensures { λ r. ⌜ r ≡ ltb u (heightOf (occupied (now (table .entry))) w y x) ⌝ }
+{
+    cells::is_less(cells::counted(u), weights[y * w + x])
+}
+
+// How many columns an occupied run goes on from x: by its weight, so that every cell jumped over is occupied.
+fn run_at(w: usize, h: usize, weights: &[i16], table: &[u8], y: usize, x: usize) -> usize
+    requires { ⌜ Standing w h (now weights) (now table) ⌝ }
+    requires { ⌜ (y < h) × (x < w) × (occupied (now table) x y ≡ true) ⌝ }
+    ensures { λ r. ⌜ Strides (occupied (now (table .entry))) w y x r ⌝ }
+{
+    cells::width_at(weights, y * w + x)
 }
 
 // Whether row y is the last or the cell under (x, y) is occupied.
@@ -38,35 +61,32 @@ fn held_at(w: usize, h: usize, weights: &[i16], table: &[u8], y: usize, x: usize
     }
 }
 
-// One more than the last column with support, where x is one column more. "looking for support only under the corner cell and not along the
-// row" goes astray: so it is carried along.
-fn reach(w: usize, h: usize, weights: &[i16], table: &[u8], y: usize, x: usize, v: u8, e: u8) -> u8
+// One more than the last column with support among the first x, given what it is among the first lo: a look back over the cells between, which are
+// empty. "looking for support only under the corner cell and not along the row" goes astray.
+fn settle(
+    w: usize,
+    h: usize,
+    weights: &[i16],
+    table: &[u8],
+    y: usize,
+    lo: usize,
+    x: usize,
+    e: u8,
+) -> u8
     requires { ⌜ Standing w h (now weights) (now table) ⌝ }
-    requires { ⌜ (y < h) × (v ≡ heightOf (occupied (now table)) w y x) ⌝ }
-    ensures { λ r. ⌜ r ≡ cond (support (occupied (now (table .entry))) w h y x) (x + 1) e ⌝ }
+    requires { ⌜ (y < h) × (lo ≤ x) × (x ≤ w) ⌝ }
+    requires { ⌜ (e ≡ reach (support (occupied (now table)) w h y) lo) × Open (heightOf (occupied (now table)) w y) lo x ⌝ }
+    ensures { λ r. ⌜ r ≡ reach (support (occupied (now (table .entry))) w h y) x ⌝ }
 {
-    if v == 0 {
-        return e;
-    }
-    if held_at(w, h, weights, table, y, x) {
-        (x + 1) as u8
-    } else {
-        e
-    }
-}
-
-// How many columns the walk goes on from x: an occupied run is skipped by its weight, so that every cell jumped over is occupied.
-fn stride(w: usize, h: usize, weights: &[i16], table: &[u8], y: usize, x: usize) -> usize
-    requires { ⌜ Standing w h (now weights) (now table) ⌝ }
-    requires { ⌜ (y < h) × (x ≤ w) ⌝ }
-    ensures { λ r. ⌜ Strides (occupied (now (table .entry))) w y x r ⌝ }
-{
-    if x < w {
-        if cells::taken_at(weights, y * w + x) {
-            return cells::width_at(weights, y * w + x);
+    let mut c = x;
+    while lo < c {
+        let p = c - 1;
+        if held_at(w, h, weights, table, y, p) {
+            return c as u8;
         }
+        c = p;
     }
-    1
+    e
 }
 
 // How many of the first n heights are lower than v: they rise, so the count goes down from the top.
@@ -155,8 +175,17 @@ fn left_of(x: usize) -> u8
     if x == 0 { 0 } else { (x - 1) as u8 }
 }
 
-// The walk: at x the stairs that are higher than the cell leave, and the stair of its height enters. Past the last column stands 0: all leave.
-// sl and sh hold the stairs.
+// Where the empty cells begin again that end behind column x, of height v: an occupied cell is none of them.
+fn begins(v: u8, x: usize) -> usize
+    requires { ⌜ x < 64 ⌝ }
+    ensures { λ r. ⌜ r ≡ cond (eqb v 0) (x + 1) x ⌝ }
+{
+    if v == 0 { x + 1 } else { x }
+}
+
+// The walk. u is the height before x. Where the height stays, nothing happens; where it rises, a stair enters; where it falls, the stairs that are
+// higher leave, and the stair of its height enters. An occupied run after an occupied cell is skipped by its weight. Past the last column stands
+// 0: all leave. sl and sh hold the stairs; e is as far as there is support among the first lo columns, and from lo on all are empty.
 fn walk(
     w: usize,
     h: usize,
@@ -178,17 +207,35 @@ fn walk(
     let mut n = 0;
     let mut m = 0;
     let mut e = 0u8;
+    let mut u = 0;
+    let mut lo = 0;
     let mut x = 0;
-    while x <= w {
-        let v = height_at(w, h, weights, table, y, x);
-        let k = cut(sh, n, v);
-        let r = left_of(x);
-        m = emit(sl, sh, k, n, v, e, r, lefts, rights, heights, m);
-        n = push(sl, sh, k, n, v, x as u8);
-        e = reach(w, h, weights, table, y, x, v, e);
-        x += stride(w, h, weights, table, y, x);
+    while x < w {
+        if stays(w, h, weights, table, y, x, u) {
+            x += 1;
+        } else if rises(w, h, weights, table, y, x, u) {
+            let v = height_at(w, h, weights, table, y, x);
+            n = push(sl, sh, n, n, v, x as u8);
+            u = v as usize;
+            x += 1;
+        } else if u == 0 {
+            x += run_at(w, h, weights, table, y, x);
+            lo = x;
+        } else {
+            let v = height_at(w, h, weights, table, y, x);
+            e = settle(w, h, weights, table, y, lo, x, e);
+            let k = cut(sh, n, v);
+            let r = left_of(x);
+            m = emit(sl, sh, k, n, v, e, r, lefts, rights, heights, m);
+            n = push(sl, sh, k, n, v, x as u8);
+            u = v as usize;
+            lo = begins(v, x);
+            x += 1;
+        }
     }
-    m
+    e = settle(w, h, weights, table, y, lo, w, e);
+    let last = left_of(w);
+    emit(sl, sh, 0, n, 0, e, last, lefts, rights, heights, m)
 }
 
 // The entries with their bottom row at y, in the order of the list: entry i is lefts[i], rights[i], heights[i]. The result is their number.
@@ -225,30 +272,50 @@ pub fn row(
     )
 }
 
-// 1 where the height goes down from u to v.
-fn turn(u: u8, v: u8) -> usize
-    ensures { λ r. ⌜ r ≡ cond (ltb v u) 1 0 ⌝ }
+// 1 where the height goes down from column x to the next.
+fn turn(w: usize, h: usize, weights: &[i16], table: &[u8], y: usize, x: usize) -> u8
+    requires { ⌜ Standing w h (now weights) (now table) ⌝ }
+    requires { ⌜ (y < h) × (x + 1 < w) ⌝ }
+    ensures { λ r. ⌜ r ≡ cond (ltb (heightOf (occupied (now (table .entry))) w y (x + 1)) (heightOf (occupied (now (table .entry))) w y x)) 1 0 ⌝ }
 {
-    if v < u { 1 } else { 0 }
+    let i = y * w + x;
+    if cells::is_lower(weights[i + 1], weights[i]) {
+        1
+    } else {
+        0
+    }
+}
+
+// 1 where the last column has a height.
+fn last_turn(w: usize, h: usize, weights: &[i16], table: &[u8], y: usize, x: usize) -> u8
+    requires { ⌜ Standing w h (now weights) (now table) ⌝ }
+    requires { ⌜ (y < h) × (x < w) ⌝ }
+    ensures { λ r. ⌜ r ≡ cond (ltb 0 (heightOf (occupied (now (table .entry))) w y x)) 1 0 ⌝ }
+{
+    if height_at(w, h, weights, table, y, x) == 0 {
+        0
+    } else {
+        1
+    }
 }
 
 // How many corners a scanned row has. "A corner is an empty cell of a scanned row that stands in the last column or whose right neighbour has
-// a smaller weight": exactly where the height goes down, 0 standing past the last column.
+// a smaller weight": exactly where the height goes down, 0 standing past the last column. It looks at all cells, so that the compiler takes many at
+// a time.
 pub fn row_corners(w: usize, h: usize, weights: &[i16], table: &[u8], y: usize) -> usize
     requires { ⌜ Standing w h (now weights) (now table) ⌝ }
     requires { ⌜ (y < h) × (scanned h (now table) y ≡ true) ⌝ }
     ensures { λ r. ⌜ r ≡ count w (λ x. corner w h (now (table .entry)) x y) ⌝ }
 {
-    let mut n = 0;
-    let mut u = 0u8;
+    let last = w - 1;
+    let mut n = 0u8;
     let mut c = 0;
-    while c <= w {
-        let v = height_at(w, h, weights, table, y, c);
-        n += turn(u, v);
-        u = v;
-        c += stride(w, h, weights, table, y, c);
+    while c < last {
+        n += turn(w, h, weights, table, y, c);
+        c += 1;
     }
-    n
+    n += last_turn(w, h, weights, table, y, last);
+    n as usize
 }
 
 // No row is marked yet.
@@ -293,12 +360,6 @@ pub fn scanned_rows(h: usize, table: &[u8], scans: &mut [u8])
         i += 1;
     }
     scans[h - 1] = 1;
-}
-
-// How many entries and how many corners.
-pub struct Counts {
-    pub entries: usize,
-    pub corners: usize,
 }
 
 // The entries of row y as `row` gives them, and none where the row is not scanned: then it has none.
@@ -412,6 +473,12 @@ fn write_in(
     at + 8 * n
 }
 
+// How many entries and how many corners.
+pub struct Counts {
+    pub entries: usize,
+    pub corners: usize,
+}
+
 // The whole list as records from the start of the room, the rows one behind the other. "later bytes stay."
 pub fn write_list(
     w: usize,
@@ -423,14 +490,16 @@ pub fn write_list(
     rights: &mut [u8],
     heights: &mut [u8],
     room: &mut [u8],
-)
+) -> Counts
     requires { ⌜ Standing w h (now weights) (now table) ⌝ }
     requires { ⌜ Scans h (now table) (now scans) ⌝ }
     requires { ⌜ (w ≤ length (now lefts)) × (w ≤ length (now rights)) × (w ≤ length (now heights)) ⌝ }
     requires { ⌜ 8 * length (entries (occupied (now table)) w h) ≤ length (now room) ⌝ }
     ensures { λ _. ⌜ now (room .exit) ≡ roomAfter w h (now (table .entry)) (now (room .entry)) ⌝ }
+    ensures { λ r. ⌜ (r .entries ≡ length (entries (occupied (now (table .entry))) w h)) × (r .corners ≡ corners w h (now (table .entry))) ⌝ }
 {
     let mut at = 0;
+    let mut turns = 0;
     let mut y = 0;
     while y < h {
         at = write_in(
@@ -446,11 +515,16 @@ pub fn write_list(
             room,
             at,
         );
+        turns += corners_in(w, h, weights, table, scans, y);
         y += 1;
+    }
+    Counts {
+        entries: at / 8,
+        corners: turns,
     }
 }
 
-// How many entries and corners the whole surface has.
+// How many entries the whole surface has.
 pub fn count_list(
     w: usize,
     h: usize,
@@ -460,28 +534,46 @@ pub fn count_list(
     lefts: &mut [u8],
     rights: &mut [u8],
     heights: &mut [u8],
-) -> Counts
+) -> usize
     requires { ⌜ Standing w h (now weights) (now table) ⌝ }
     requires { ⌜ Scans h (now table) (now scans) ⌝ }
     requires { ⌜ (w ≤ length (now lefts)) × (w ≤ length (now rights)) × (w ≤ length (now heights)) ⌝ }
-    ensures { λ r. ⌜ (r .entries ≡ length (entries (occupied (now (table .entry))) w h)) × (r .corners ≡ corners w h (now (table .entry))) ⌝ }
+    ensures { λ r. ⌜ r ≡ length (entries (occupied (now (table .entry))) w h) ⌝ }
 {
     let mut found = 0;
-    let mut turns = 0;
     let mut y = 0;
     while y < h {
         found += entries_in(w, h, weights, table, scans, y, lefts, rights, heights);
-        turns += corners_in(w, h, weights, table, scans, y);
         y += 1;
     }
-    Counts {
-        entries: found,
-        corners: turns,
-    }
+    found
 }
 
-// The listing of a surface that stands: 7 and nothing written where the room is "shorter than 8 bytes for each entry". The list is not built
-// anywhere: its rows are walked twice, to count and to write. scans, lefts, rights and heights hold one row's worth.
+// Code 7: "list room shorter than 8 bytes for each entry". "At most W·H entries exist", so that a room for as many asks for no counting.
+fn short(
+    w: usize,
+    h: usize,
+    weights: &[i16],
+    table: &[u8],
+    scans: &[u8],
+    lefts: &mut [u8],
+    rights: &mut [u8],
+    heights: &mut [u8],
+    n: usize,
+) -> bool
+    requires { ⌜ Standing w h (now weights) (now table) ⌝ }
+    requires { ⌜ Scans h (now table) (now scans) ⌝ }
+    requires { ⌜ (w ≤ length (now lefts)) × (w ≤ length (now rights)) × (w ≤ length (now heights)) ⌝ }
+    ensures { λ r. ⌜ r ≡ ltb n (8 * length (entries (occupied (now (table .entry))) w h)) ⌝ }
+{
+    if 8 * (w * h) <= n {
+        return false;
+    }
+    n < 8 * count_list(w, h, weights, table, scans, lefts, rights, heights)
+}
+
+// The listing of a surface that stands: 7 and nothing written where the room is short. The list is not built anywhere: its rows are walked once,
+// and where the room might be short once more before. scans, lefts, rights and heights hold one row's worth.
 fn list_on(
     w: usize,
     h: usize,
@@ -498,11 +590,11 @@ fn list_on(
     ensures { λ r. ⌜ (r ≡ listedResult w h (now (table .entry)) (now (room .entry))) × (now (room .exit) ≡ listedRoom w h (now (table .entry)) (now (room .entry))) ⌝ }
 {
     scanned_rows(h, table, scans);
-    let c = count_list(w, h, weights, table, scans, lefts, rights, heights);
-    if room.len() < 8 * c.entries {
+    let n = room.len();
+    if short(w, h, weights, table, scans, lefts, rights, heights, n) {
         return 7;
     }
-    write_list(w, h, weights, table, scans, lefts, rights, heights, room);
+    let c = write_list(w, h, weights, table, scans, lefts, rights, heights, room);
     65536 * (c.entries as u64) + 4294967296 * (c.corners as u64)
 }
 

@@ -167,15 +167,15 @@ pub fn take_out(w: usize, h: usize, s: &mut [i16], t: &mut [u8], i: usize)
     put_record(t, i, 0, 0, none);
 }
 
-// Slot i is used and has this id.
+// Slot i is used and has this id. The id is looked at first: hardly any slot has it.
 fn has_id(t: &[u8], id: usize, i: usize) -> bool
     requires { ⌜ 8 * i + 8 ≤ length (now t) ⌝ }
     ensures { λ r. ⌜ r ≡ hasId (now (t .entry)) id i ⌝ }
 {
-    if table::slot_free(t, i) {
+    if table::id_at(t, i) != id {
         return false;
     }
-    table::id_at(t, i) == id
+    !table::slot_free(t, i)
 }
 
 // The slot of the module with this id, and the number of slots where there is none.

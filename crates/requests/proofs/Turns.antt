@@ -6,14 +6,14 @@ use native.Mathlib.Numerals.{add-one}
 use native.Mathlib.Omega.{arith}
 use lib.IntN.{ℤ}
 use lib.ListN.{length, take, drop, drop-of-length-le, length-append, length-drop}
-use borrow.Rule.Slice.PartMut.{putMid}
+use borrow.Rule.Slice.PartMut.{putMid, post-is}
 use Rattle.cells.proofs.Parts.{put-part}
 use Rattle.rules.specs.Surface.{Standing}
 use Rattle.rules.specs.Requests.{stepOf, answerOf, tableAfter, weightsAfter, acceptedOne}
 use Rattle.rules.specs.Blocks.{State, started, next, request, after}
 use Rattle.rules.specs.declared.Step.{Step}
 use Rattle.rules.specs.declared.Step.the-variants.{Refused, Done}
-use Rattle.requests.specs.Steps.{Served, Ran}
+use Rattle.requests.specs.Steps.{Served, bytesAt, ServedAt, Ran}
 use Rattle.requests.proofs.Accepted.{left-stands, served-stands}
 
 -- the first k requests are run
@@ -30,8 +30,13 @@ one-most : (d : Step) → acceptedOne d ≤ 1
 one-most (Refused c) = omega arith
 one-most (Done i r) = omega arith
 
-pub served-one : (W H : ℕ) (q : List ℕ) (s : List ℤ) (t : List ℕ) (s′ : List ℤ) (t′ a : List ℕ) (n : ℕ) → Served W H q s t s′ t′ a n → n ≤ 1
-served-one W H q s t s′ t′ a n v = omega (arith, v .accepted, one-most (stepOf W H t q))
+-- the part that the code lends is the eight bytes at that offset
+pub served-at : (W H : ℕ) (b : List ℕ) (at : ℕ) (s : List ℤ) (t a : List ℕ) (s′ : List ℤ) (t′ p : List ℕ) (n : ℕ) → Served W H (take (at + 8 - at) (drop at b)) s t s′ t′ p n →
+    ServedAt W H b at s t a s′ t′ (putMid at (at + 8 - at) a p) n
+served-at W H b at s t a s′ t′ p n v =
+    let e8 : at + 8 - at ≡ 8 = omega arith in
+    let w : Served W H (bytesAt b at) s t s′ t′ p n = subst (λ j. Served W H (take j (drop at b)) s t s′ t′ p n) e8 v in
+    record { weights = w .weights; table = w .table; answers = ap₂ (λ x y. take at a ++ (x ++ y)) (w .answer) (post-is at (at + 8) a (omega arith)); accepted = w .accepted }
 
 module _ (W H : ℕ) (s₀ : List ℤ) (t₀ b a₀ : List ℕ) where
   abbrev state : ℕ → State
@@ -59,31 +64,30 @@ module _ (W H : ℕ) (s₀ : List ℤ) (t₀ b a₀ : List ℕ) where
   after-few (suc k) = omega (arith, after-few k, one-most (stepOf W H (state k .table) (request b k)))
 
   -- one request more, as the definition counts
-  ran-suc : (k : ℕ) (s : List ℤ) (t a : List ℕ) (s′ : List ℤ) (t′ a′ p : List ℕ) (n m : ℕ) → RanTo W H s₀ t₀ b a₀ k s t a n → Served W H (request b k) s t s′ t′ p m →
-      a′ ≡ putMid (8 * k) (8 * k + 8 - 8 * k) a p → length t′ ≡ length t → RanTo W H s₀ t₀ b a₀ (suc k) s′ t′ a′ (n + m)
+  ran-suc : (k : ℕ) (s : List ℤ) (t a : List ℕ) (s′ : List ℤ) (t′ a′ : List ℕ) (n m : ℕ) → RanTo W H s₀ t₀ b a₀ k s t a n → ServedAt W H b (8 * k) s t a s′ t′ a′ m → length t′ ≡ length t →
+      RanTo W H s₀ t₀ b a₀ (suc k) s′ t′ a′ (n + m)
   unfolding after next
-  ran-suc k s t a s′ t′ a′ p n m r v e l =
+  ran-suc k s t a s′ t′ a′ n m r v l =
       let q = request b k in
+      let p = answerOf q (stepOf W H t q) in
+      let X = state k .answers in
       let e8 : 8 * k + 8 ≡ 8 * suc k = omega arith in
       record {
-        stands = served-stands W H q s t s′ t′ p m (r .stands) v;
+        stands = served-stands W H q s t s′ t′ p m (r .stands) (record { weights = v .weights; table = v .table; answer = refl; accepted = v .accepted });
         weights = v .weights ∙ ap₂ (λ x y. weightsAfter W H q (stepOf W H y q) y x) (r .weights) (r .table);
         table = v .table ∙ ap (λ y. tableAfter q (stepOf W H y q) y) (r .table);
-        answers = e ∙ ap (λ l. putMid (8 * k) (8 * k + 8 - 8 * k) l p) (r .answers) ∙ put-part (state k .answers) a₀ p (8 * k) 8 (answers-long k)
-            ∙ ap (λ l. (state k .answers ++ l) ++ drop (8 * k + 8) a₀) (v .answer ∙ ap (λ y. answerOf q (stepOf W H y q)) (r .table))
-            ∙ ap (λ j. (state k .answers ++ answerOf q (stepOf W H (state k .table) q)) ++ drop j a₀) e8;
+        answers = v .answers ∙ ap (λ l. take (8 * k) l ++ (p ++ drop (8 * k + 8) l)) (r .answers)
+            ∙ ap (λ z. take (8 * k) (X ++ drop (8 * k) a₀) ++ (p ++ z)) (sym (post-is (8 * k) (8 * k + 8) (X ++ drop (8 * k) a₀) (omega arith)))
+            ∙ put-part X a₀ p (8 * k) 8 (answers-long k)
+            ∙ ap₂ (λ y j. (X ++ answerOf q (stepOf W H y q)) ++ drop j a₀) (r .table) e8;
         accepted = ap₂ _+_ (r .accepted) (v .accepted ∙ ap (λ y. acceptedOne (stepOf W H y q)) (r .table));
         few = omega (arith, r .few, v .accepted, one-most (stepOf W H t q));
         same = l ∙ r .same;
       }
 
-  -- the same at k + 1, with the part as the code lends it
-  pub ran-more : (k : ℕ) (s : List ℤ) (t a : List ℕ) (s′ : List ℤ) (t′ a′ p : List ℕ) (n m : ℕ) → RanTo W H s₀ t₀ b a₀ k s t a n → Served W H (take (8 * k + 8 - 8 * k) (drop (8 * k) b)) s t s′ t′ p m →
-      a′ ≡ putMid (8 * k) (8 * k + 8 - 8 * k) a p → length t′ ≡ length t → RanTo W H s₀ t₀ b a₀ (k + 1) s′ t′ a′ (n + m)
-  ran-more k s t a s′ t′ a′ p n m r v e l =
-      let e8 : 8 * k + 8 - 8 * k ≡ 8 = omega arith in
-      subst⁻¹ (λ j. RanTo W H s₀ t₀ b a₀ j s′ t′ a′ (n + m)) (add-one k)
-      (ran-suc k s t a s′ t′ a′ p n m r (subst (λ j. Served W H (take j (drop (8 * k) b)) s t s′ t′ p m) e8 v) e l)
+  pub ran-more : (k : ℕ) (s : List ℤ) (t a : List ℕ) (s′ : List ℤ) (t′ a′ : List ℕ) (n m : ℕ) → RanTo W H s₀ t₀ b a₀ k s t a n → ServedAt W H b (8 * k) s t a s′ t′ a′ m → length t′ ≡ length t →
+      RanTo W H s₀ t₀ b a₀ (k + 1) s′ t′ a′ (n + m)
+  ran-more k s t a s′ t′ a′ n m r v l = subst⁻¹ (λ j. RanTo W H s₀ t₀ b a₀ j s′ t′ a′ (n + m)) (add-one k) (ran-suc k s t a s′ t′ a′ n m r v l)
 
   -- the answers keep their length
   pub ran-long : (k n : ℕ) (s : List ℤ) (t a : List ℕ) (m : ℕ) → k ≤ n → length a₀ ≡ 8 * n → RanTo W H s₀ t₀ b a₀ k s t a m → length a ≡ 8 * n

@@ -1,13 +1,14 @@
 -- WHAT JUDGING, SERVING AND RUNNING LEAVE, in the words of the rules. q is a request's eight bytes; s and t are weights and table before, s′ and t′ after.
 use mathlib.Core.Path.{_≡_}
 use mathlib.Core.Bool.{Bool, not, cond, _||_}
-use mathlib.Core.List.{List}
+use mathlib.Core.List.{List, _++_}
 use mathlib.Core.Option.{Option, none, some}
-use Prim.Native.Nat.{ℕ, _+_}
+use Prim.Native.Nat.{ℕ, _+_, _≤_}
 use lib.Dec.{ltb, eqb}
 use lib.IntN.{ℤ}
+use lib.ListN.{length, take, drop}
 use Rattle.rules.specs.Tests.{all}
-use Rattle.rules.specs.Surface.{fresh}
+use Rattle.rules.specs.Surface.{Standing, fresh}
 use Rattle.rules.specs.Empties.{cellsEmpty}
 use Rattle.rules.specs.Judging.{first}
 use Rattle.rules.specs.Requests.{operation, idLow, idHigh, zeros, soundLines, ground, stepOf, answerOf, tableAfter, weightsAfter, acceptedOne}
@@ -61,6 +62,23 @@ pub record Served (W H : ℕ) (q : List ℕ) (s : List ℤ) (t : List ℕ) (s′
   pub table : t′ ≡ tableAfter q (stepOf W H t q) t
   pub answer : a ≡ answerOf q (stepOf W H t q)
   pub accepted : n ≡ acceptedOne (stepOf W H t q)
+
+-- the eight bytes at an offset of a block
+abbrev pub bytesAt : List ℕ → ℕ → List ℕ
+bytesAt b at = take 8 (drop at b)
+
+-- the request there may be served: the surface stands, and the answers have the same place
+pub record Turn (W H : ℕ) (b : List ℕ) (at : ℕ) (s : List ℤ) (t a : List ℕ) : Type 0 where
+  pub stands : Standing W H s t
+  pub inside : at + 8 ≤ length b
+  pub long : length a ≡ length b
+
+-- it is served, and answered in that place: the other answers are as they were
+pub record ServedAt (W H : ℕ) (b : List ℕ) (at : ℕ) (s : List ℤ) (t a : List ℕ) (s′ : List ℤ) (t′ a′ : List ℕ) (n : ℕ) : Type 0 where
+  pub weights : s′ ≡ weightsAfter W H (bytesAt b at) (stepOf W H t (bytesAt b at)) t s
+  pub table : t′ ≡ tableAfter (bytesAt b at) (stepOf W H t (bytesAt b at)) t
+  pub answers : a′ ≡ take at a ++ (answerOf (bytesAt b at) (stepOf W H t (bytesAt b at)) ++ drop (at + 8) a)
+  pub accepted : n ≡ acceptedOne (stepOf W H t (bytesAt b at))
 
 -- what a run has left is what a state says
 pub record Ran (b : State) (s′ : List ℤ) (t′ a : List ℕ) (n : ℕ) : Type 0 where

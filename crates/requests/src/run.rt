@@ -5,22 +5,23 @@ ghost use lib.ListN.{length};
 ghost use Rattle.rules.specs.Surface.{Standing};
 ghost use Rattle.rules.specs.Blocks.{started, requests, after};
 ghost use Rattle.requests.specs.Steps.{Ran};
-use super::serve::serve;
+use super::reader::begin;
+use super::reader::more;
+use super::reader::next;
+use super::reader::serve_next;
 
-// The requests of a block in turn, each answered in its own part of the answers. The result is how many are accepted.
+// The requests of a block in turn, each answered in its own part of the answers. The result is how many are accepted. The reader is held from turn
+// to turn; it stays in here, so whoever calls this sees plain slices.
 pub fn run_on(w: usize, h: usize, s: &mut [i16], t: &mut [u8], b: &[u8], a: &mut [u8]) -> usize
     requires { ⌜ Standing w h (now s) (now t) ⌝ }
     requires { ⌜ (length (now b) ≡ 8 * requests (now b)) × (requests (now b) ≤ 512) × (length (now a) ≡ length (now b)) ⌝ }
     ensures { λ n. ⌜ Ran (after w h (now (b .entry)) (started (now (s .entry)) (now (t .entry))) (requests (now (b .entry)))) (now (s .exit)) (now (t .exit)) (now (a .exit)) n ⌝ }
 {
-    let n = b.len() / 8;
+    let mut r = begin(b);
     let mut done = 0;
-    let mut k = 0;
-    while k < n {
-        let at = 8 * k;
-        let end = at + 8;
-        done += serve(w, h, s, t, &b[at..end], &mut a[at..end]);
-        k += 1;
+    while more(r) {
+        done += serve_next(r, w, h, s, t, a);
+        r = next(r);
     }
     done
 }

@@ -32,9 +32,12 @@ below-eight P a b c d e f g h (suc (suc (suc (suc (suc (suc zero)))))) l = g
 below-eight P a b c d e f g h (suc (suc (suc (suc (suc (suc (suc zero))))))) l = h
 below-eight P a b c d e f g h (suc (suc (suc (suc (suc (suc (suc (suc k)))))))) l = absurd (omega arith)
 
--- the slot is free exactly when the sum of its bytes is 0
+-- the slot is free exactly when its bytes as one number are 0
+abbrev two : List ℕ → ℕ → ℕ → ℕ
+two t i k = byte t i k + 256 * byte t i (k + 1)
+
 abbrev sum : List ℕ → ℕ → ℕ
-sum t i = byte t i 0 + byte t i 1 + byte t i 2 + byte t i 3 + (byte t i 4 + byte t i 5 + byte t i 6 + byte t i 7)
+sum t i = two t i 0 + 65536 * two t i 2 + 4294967296 * (two t i 4 + 65536 * two t i 6)
 
 pub free-sum : (t : List ℕ) (i : ℕ) → eqb (sum t i) 0 ≡ freeSlot t i
 free-sum t i =

@@ -19,11 +19,19 @@ pub fn byte_at(t: &[u8], i: usize, k: usize) -> usize
     wide(t[8 * i + k])
 }
 
+// Bytes k and k + 1 of slot i as one number, low byte first.
+fn two_at(t: &[u8], i: usize, k: usize) -> usize
+    requires { ⌜ 8 * i + k + 1 < length (now t) ⌝ }
+    ensures { λ r. ⌜ (r ≡ byte (now (t .entry)) i k + 256 * byte (now (t .entry)) i (k + 1)) × (r < 65536) ⌝ }
+{
+    byte_at(t, i, k) + 256 * byte_at(t, i, k + 1)
+}
+
 pub fn id_at(t: &[u8], i: usize) -> usize
     requires { ⌜ 8 * i + 8 ≤ length (now t) ⌝ }
     ensures { λ r. ⌜ (r ≡ idOf (now (t .entry)) i) × (r < 65536) ⌝ }
 {
-    byte_at(t, i, 0) + 256 * byte_at(t, i, 1)
+    two_at(t, i, 0)
 }
 
 pub fn rect_at(t: &[u8], i: usize) -> Rect
@@ -46,12 +54,12 @@ pub fn spare_at(t: &[u8], i: usize) -> usize
     byte_at(t, i, 6) + byte_at(t, i, 7)
 }
 
-// "A free slot is eight zero bytes": their sum is 0.
+// "A free slot is eight zero bytes": as one number they are 0, so that the machine reads them at once.
 pub fn slot_free(t: &[u8], i: usize) -> bool
     requires { ⌜ 8 * i + 8 ≤ length (now t) ⌝ }
     ensures { λ r. ⌜ r ≡ freeSlot (now (t .entry)) i ⌝ }
 {
-    let low = byte_at(t, i, 0) + byte_at(t, i, 1) + byte_at(t, i, 2) + byte_at(t, i, 3);
-    let high = byte_at(t, i, 4) + byte_at(t, i, 5) + byte_at(t, i, 6) + byte_at(t, i, 7);
-    low + high == 0
+    let low = two_at(t, i, 0) + 65536 * two_at(t, i, 2);
+    let high = two_at(t, i, 4) + 65536 * two_at(t, i, 6);
+    low + 4294967296 * high == 0
 }

@@ -3,16 +3,16 @@ use mathlib.Core.Path.{_≡_, refl, _∙_}
 use Prim.Native.Nat.{_+_, _-_, _≤_, _<_}
 use native.Mathlib.Omega.{arith}
 use lib.ListN.{length}
-use Rattle.listing.proofs.Counted.{Counted, count-start, count-more, count-end}
+use Rattle.listing.proofs.Counted.{Found, found-none, found-more, found-all}
 use Rattle.listing.proofs.count_list.Statement.{statement}
 use Rattle.listing.proofs.count_list.Tie as tie
 
 abbrev Inv-loop : tie.InvT-loop
-Inv-loop w h weights table scans lefts₀ rights₀ heights₀ found₀ turns₀ y₀ lefts rights heights found turns y =
-    (length lefts ≡ length lefts₀) × (length rights ≡ length rights₀) × (length heights ≡ length heights₀) × Counted w h table found turns y
+Inv-loop w h weights table scans lefts₀ rights₀ heights₀ found₀ y₀ lefts rights heights found y =
+    (length lefts ≡ length lefts₀) × (length rights ≡ length rights₀) × (length heights ≡ length heights₀) × Found w h table found y
 
 abbrev μ-loop : tie.MeasureT-loop
-μ-loop w h weights table scans lefts₀ rights₀ heights₀ found₀ turns₀ y₀ lefts rights heights found turns y = h - y
+μ-loop w h weights table scans lefts₀ rights₀ heights₀ found₀ y₀ lefts rights heights found y = h - y
 
 abbrev start : tie.At-loop Inv-loop μ-loop → tie.Start Inv-loop μ-loop
 start c = c .before .before .before .before .before .before
@@ -24,7 +24,7 @@ abbrev listed : tie.After-slice-known6 Inv-loop μ-loop → tie.After-entries-in
 listed c = c .before .before .before .before .before .before
 
 loop-holds : tie.Need-loop-holds Inv-loop μ-loop
-loop-holds c = (refl, refl, refl, count-start _ _ _)
+loop-holds c = (refl, refl, refl, found-none _ _ _)
 
 entries-in-requires : tie.Need-entries-in-requires Inv-loop μ-loop
 entries-in-requires c κs =
@@ -38,35 +38,22 @@ add-found c =
     let e = listed c in
     let t = entered (e .before) in
     let p = start (t .before) .pre .0 in
-    omega (arith, e .entries-in .ensures .1 .1, t .before .loop .inv .3 .fewFound, t .loop-test .taken, p .widest, p .highest)
-
-corners-in-requires : tie.Need-corners-in-requires Inv-loop μ-loop
-corners-in-requires c κs =
-    let t = entered (listed c .before) in
-    let p = start (t .before) .pre in
-    (p .0, (t .loop-test .taken, p .1 .0))
-
-add-turns : tie.Need-add-turns Inv-loop μ-loop
-add-turns c =
-    let t = entered (listed (c .before) .before) in
-    let p = start (t .before) .pre .0 in
-    omega (arith, c .corners-in .ensures .1, t .before .loop .inv .3 .fewTurns, t .loop-test .taken, p .widest, p .highest)
+    omega (arith, e .entries-in .ensures .1 .1, t .before .loop .inv .3 .few, t .loop-test .taken, p .widest, p .highest)
 
 add-y : tie.Need-add-y Inv-loop μ-loop
-add-y c = omega (arith, entered (listed (c .before) .before) .loop-test .taken)
+add-y c = omega (arith, entered (listed c .before) .loop-test .taken)
 
 loop-less : tie.Need-loop-less Inv-loop μ-loop
-loop-less c = omega (arith, entered (listed (c .before) .before) .loop-test .taken)
+loop-less c = omega (arith, entered (listed c .before) .loop-test .taken)
 
 loop-again : tie.Need-loop-again Inv-loop μ-loop
 loop-again c =
-    let e = listed (c .before) in
+    let e = listed c in
     let t = entered (e .before) in
     let i = t .before .loop .inv in
     let k = e .entries-in .kept .1 .1 .1 .1 .1 .1 in
     let n = e .entries-in .ensures .1 in
-    let m = c .corners-in .ensures in
-    (k .0 ∙ i .0, k .1 .0 ∙ i .1, k .1 .1 .0 ∙ i .2, count-more _ _ _ _ _ _ _ _ (i .3) (start (t .before) .pre .0 .widest) (t .loop-test .taken) (n .0) (n .1) (m .0) (m .1))
+    (k .0 ∙ i .0, k .1 .0 ∙ i .1, k .1 .1 .0 ∙ i .2, found-more _ _ _ _ _ _ (i .3) (start (t .before) .pre .0 .widest) (t .loop-test .taken) (n .0) (n .1))
 
 same-length : tie.Need-same-length Inv-loop μ-loop
 same-length c = c .before .loop .inv .0
@@ -78,7 +65,7 @@ same-length-3 : tie.Need-same-length-3 Inv-loop μ-loop
 same-length-3 c = c .before .loop .inv .2
 
 returns : tie.Need-returns Inv-loop μ-loop
-returns c = count-end _ _ _ _ _ _ (c .before .loop .inv .3) (c .loop-test .left)
+returns c = found-all _ _ _ _ _ (c .before .loop .inv .3) (c .loop-test .left)
 
 pub count-list-spec : {M : Type 1} → statement M
 count-list-spec =
@@ -89,8 +76,6 @@ count-list-spec =
     loop-holds
     entries-in-requires
     add-found
-    corners-in-requires
-    add-turns
     add-y
     loop-less
     loop-again

@@ -1,67 +1,81 @@
 -- `listing::row_corners` meets its contract. Assumes nothing.
-use Prim.Native.Nat.{_+_, _-_, _≤_}
+use mathlib.Core.Path.{_≡_, refl, sym, ap, _∙_}
+use Prim.Native.Nat.{_+_, _-_, _≤_, _<_}
 use native.Mathlib.Omega.{arith}
-use borrow.Author.Needs.{needs}
 use lib.Dec.{ltb}
 use Rattle.rules.specs.Surface.{occupied}
 use Rattle.listing.specs.Listed.{heightOf}
-use Rattle.listing.proofs.Cells.{height-taken}
-use Rattle.listing.proofs.Corners.{turns-le, Turned, turn-start, turn-more, turn-end, one-or-none}
+use Rattle.listing.proofs.Cells.{height-past}
+use Rattle.listing.proofs.Corners.{turns, turns-le, turns-first, turns-next, turns-corners, one-or-none}
 use Rattle.listing.proofs.row_corners.Statement.{statement}
 use Rattle.listing.proofs.row_corners.Tie as tie
 
 abbrev Inv-loop : tie.InvT-loop
-Inv-loop w h weights table y n₀ u₀ c₀ n u c = Turned (heightOf (occupied table) w y) w n u c
+Inv-loop w h weights table y last n₀ c₀ n c = (c ≤ last) × (last + 1 ≡ w) × (n ≡ turns (heightOf (occupied table) w y) (c + 1))
 
 abbrev μ-loop : tie.MeasureT-loop
-μ-loop w h weights table y n₀ u₀ c₀ n u c = w + 1 - c
+μ-loop w h weights table y last n₀ c₀ n c = last - c
 
--- c is a column, or just past the last
-seen : (c : tie.In-loop Inv-loop μ-loop) → c .before .loop .c ≤ c .before .before .before .args .w
-seen c = omega (arith, c .loop-test .taken)
+sub-last : tie.Need-sub-last Inv-loop μ-loop
+sub-last c = c .before .pre .0 .wide
 
 loop-holds : tie.Need-loop-holds Inv-loop μ-loop
-loop-holds c = turn-start _ _
-
-height-at-requires : tie.Need-height-at-requires Inv-loop μ-loop
-height-at-requires c κs = let p = c .before .before .before .pre in (p .0, p .1 .0)
+loop-holds c = let s = c .before in (omega arith, omega (arith, s .pre .0 .wide), sym (turns-first (heightOf (occupied (s .args .table .now)) (s .args .w) (s .args .y))))
 
 turn-requires : tie.Need-turn-requires Inv-loop μ-loop
-turn-requires c κs = search needs
+turn-requires c κs = let s = c .before .before .before in (s .pre .0, (s .pre .1 .0, omega (arith, s .pre .0 .wide)))
 
 -- at most one corner for each column seen
-few : (c : tie.After-turn Inv-loop μ-loop) → let l = c .before .before .before .loop in (l .n ≤ l .c) × (c .turn .result ≤ 1)
+few : (c : tie.At-loop Inv-loop μ-loop) → (c .loop .n ≤ c .loop .c + 1) × (c .loop .c < 64)
 few c =
-    let l = c .before .before .before .loop in
-    let a = c .before .before .before .before .before .args in (
-      omega (arith, l .inv .number, turns-le (heightOf (occupied (a .table .now)) (a .w) (a .y)) (l .c)),
-      omega (arith, c .turn .ensures, one-or-none (ltb (c .before .height-at .result) (l .u))),
-    )
+    let s = c .before .before in
+    (omega (arith, c .loop .inv .2, turns-le (heightOf (occupied (s .args .table .now)) (s .args .w) (s .args .y)) (c .loop .c + 1)), omega (arith, c .loop .inv .0, s .pre .0 .wide, s .pre .0 .widest))
 
 add-n : tie.Need-add-n Inv-loop μ-loop
-add-n c = omega (arith, few c, seen (c .before .before), c .before .before .before .before .before .pre .0 .widest)
-
-stride-requires : tie.Need-stride-requires Inv-loop μ-loop
-stride-requires c κs = let p = c .before .before .before .before .before .pre in (p .0, (p .1 .0, seen (c .before .before)))
+add-n c =
+    let s = c .before .before .before .before in
+    let f = heightOf (occupied (s .args .table .now)) (s .args .w) (s .args .y) in
+    omega (arith, few (c .before .before), c .turn .ensures, one-or-none (ltb (f (c .before .before .loop .c + 1)) (f (c .before .before .loop .c))))
 
 add-c : tie.Need-add-c Inv-loop μ-loop
-add-c c = omega (arith, c .stride .ensures .inside, c .before .before .before .before .before .before .pre .0 .widest)
+add-c c = omega (arith, few (c .before .before))
 
 loop-less : tie.Need-loop-less Inv-loop μ-loop
-loop-less c = omega (arith, c .stride .ensures .inside, c .stride .ensures .one, seen (c .before .before .before))
+loop-less c = omega arith
 
 loop-again : tie.Need-loop-again Inv-loop μ-loop
 loop-again c =
-    let t = c .before in
-    let a = t .before .before .before .before .before .args in
-    let occ = occupied (a .table .now) in
-    turn-more (heightOf occ (a .w) (a .y)) _ _ _ _ _ _ _ (t .before .before .before .loop .inv) (t .before .height-at .ensures) (t .turn .ensures)
-    (c .stride .ensures .one) (c .stride .ensures .inside) (λ p k u v. height-taken occ (a .w) (a .y) k (c .stride .ensures .over p k u v))
+    let s = c .before .before .before .before in
+    let l = c .before .before .loop in
+    (omega arith, omega (arith, s .pre .0 .wide), turns-next (heightOf (occupied (s .args .table .now)) (s .args .w) (s .args .y)) (l .c) (l .n) _ _ _ (l .inv .2) (c .turn .ensures) refl refl)
+
+last-turn-requires : tie.Need-last-turn-requires Inv-loop μ-loop
+last-turn-requires c κs = let s = c .before .before .before in (s .pre .0, (s .pre .1 .0, omega (arith, s .pre .0 .wide)))
+
+-- the last column too
+all : (c : tie.After-last-turn Inv-loop μ-loop) → let s = c .before .before .before .before in
+    (c .before .before .loop .n + c .last-turn .result ≡ turns (heightOf (occupied (s .args .table .now)) (s .args .w) (s .args .y)) (s .args .w + 1))
+    × (c .before .before .loop .n + c .last-turn .result ≤ 65)
+all c =
+    let s = c .before .before .before .before in
+    let l = c .before .before .loop in
+    let f = heightOf (occupied (s .args .table .now)) (s .args .w) (s .args .y) in
+    let end : s .args .w - 1 ≡ l .c = omega (arith, l .inv .0) in
+    let past : 0 ≡ f (l .c + 1) = sym (height-past (occupied (s .args .table .now)) (s .args .w) (s .args .y) (l .c + 1) (omega (arith, l .inv .1))) in
+    let q : l .c + 1 + 1 ≡ s .args .w + 1 = omega (arith, l .inv .1) in
+    let t = turns-next f (l .c) (l .n) _ _ _ (l .inv .2) (c .last-turn .ensures) (ap f end) past ∙ ap (turns f) q in
+    (t, omega (arith, t, turns-le f (s .args .w + 1), s .pre .0 .widest))
+
+add-n-2 : tie.Need-add-n-2 Inv-loop μ-loop
+add-n-2 c = omega (arith, all c)
+
+cast-result : tie.Need-cast-result Inv-loop μ-loop
+cast-result c = omega (arith, all c)
 
 returns : tie.Need-returns Inv-loop μ-loop
 returns c =
-    let s = c .before .before .before in
-    turn-end (s .args .w) (s .args .h) (s .args .table .now) (s .args .y) _ _ _ (s .pre .1 .1) (c .before .loop .inv) (c .loop-test .left)
+    let s = c .before .before .before .before in
+    turns-corners (s .args .w) (s .args .h) (s .args .table .now) (s .args .y) _ (s .pre .1 .1) (all c .0)
 
 pub row-corners-spec : {M : Type 1} → statement M
 row-corners-spec =
@@ -69,12 +83,14 @@ row-corners-spec =
     (tie.spec
     Inv-loop
     μ-loop
+    sub-last
     loop-holds
-    height-at-requires
     turn-requires
     add-n
-    stride-requires
     add-c
     loop-less
     loop-again
+    last-turn-requires
+    add-n-2
+    cast-result
     returns)

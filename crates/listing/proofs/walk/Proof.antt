@@ -1,150 +1,244 @@
 -- `listing::walk` meets its contract. Assumes nothing.
-use Prim.Native.Nat.{_+_, _-_, _≤_}
-use native.Mathlib.Omega.{arith}
-use borrow.Author.Needs.{needs}
+use mathlib.Core.Path.{_≡_, sym, _∙_, subst}
+use mathlib.Core.Bool.{Bool, false, not}
+use Prim.Native.Nat.{ℕ, _+_, _-_, _≤_, _<_}
 use native.Mathlib.Nat.{le-refl}
+use native.Mathlib.Omega.{arith}
+use borrow.Author.Tests.{ltb-true, ltb-false, eqb-true, not-true}
 use Rattle.rules.specs.Surface.{occupied}
+use Rattle.rules.proofs.Tests.{and-left, and-right}
+use Rattle.listing.specs.Row.{Open}
 use Rattle.listing.specs.Listed.{heightOf, support, entriesIn}
-use Rattle.listing.proofs.Cells.{height-past, height-taken, unheld}
-use Rattle.listing.proofs.Walks.{Walked, walk-start, rise, fits-sl, fits-sh, fits-out, enters, walk-end, walk-more, walk-jump}
+use Rattle.listing.proofs.Cells.{height-past, height-taken, height-low, unheld, open-high, none-taken}
+use Rattle.listing.proofs.Walks.{Going, rise, fits-sl, fits-sh, fits-out, enters, cut-above, before-low, go-start, go-stay, go-rise, go-skip, go-fall, go-end}
 use Rattle.listing.proofs.walk.Statement.{statement}
 use Rattle.listing.proofs.walk.Tie as tie
 
 abbrev Inv-loop : tie.InvT-loop
-Inv-loop w h weights table y sl₀ sh₀ lefts₀ rights₀ heights₀ n₀ m₀ e₀ x₀ sl sh lefts rights heights n m e x =
-    Walked (heightOf (occupied table) w y) (support (occupied table) w h y) w sl₀ sh₀ lefts₀ rights₀ heights₀ sl sh lefts rights heights n m e x
+Inv-loop w h weights table y sl₀ sh₀ lefts₀ rights₀ heights₀ n₀ m₀ e₀ u₀ lo₀ x₀ sl sh lefts rights heights n m e u lo x =
+    Going (heightOf (occupied table) w y) (support (occupied table) w h y) w sl₀ sh₀ lefts₀ rights₀ heights₀ sl sh lefts rights heights n m e u lo x
 
 abbrev μ-loop : tie.MeasureT-loop
-μ-loop w h weights table y sl₀ sh₀ lefts₀ rights₀ heights₀ n₀ m₀ e₀ x₀ sl sh lefts rights heights n m e x = w + 1 - x
+μ-loop w h weights table y sl₀ sh₀ lefts₀ rights₀ heights₀ n₀ m₀ e₀ u₀ lo₀ x₀ sl sh lefts rights heights n m e u lo x = w - x
 
--- from a place in a turn back to the places before it
+-- from the place at which a turn starts back to the start
 abbrev start : tie.At-loop Inv-loop μ-loop → tie.Start Inv-loop μ-loop
 start c = c .before .before .before .before .before .before .before
 
-abbrev looped : tie.After-height-at Inv-loop μ-loop → tie.At-loop Inv-loop μ-loop
-looped c = c .before .before
+-- the row's heights and support
+abbrev f : tie.Start Inv-loop μ-loop → ℕ → ℕ
+f s = heightOf (occupied (s .args .table .now)) (s .args .w) (s .args .y)
 
-abbrev read : tie.After-cut Inv-loop μ-loop → tie.After-height-at Inv-loop μ-loop
-read c = c .before .before
+abbrev b : tie.Start Inv-loop μ-loop → ℕ → Bool
+b s = support (occupied (s .args .table .now)) (s .args .w) (s .args .h) (s .args .y)
 
-abbrev cut-there : tie.After-emit-arg5 Inv-loop μ-loop → tie.After-cut Inv-loop μ-loop
-cut-there c = c .before .before .before .before .before .before
+bare : (s : tie.Start Inv-loop μ-loop) (k : ℕ) → f s k ≡ 0 → b s k ≡ false
+bare s k e = unheld (occupied (s .args .table .now)) (s .args .w) (s .args .y) k (s .args .h) e
 
-abbrev emitted : tie.After-push-arg2 Inv-loop μ-loop → tie.After-emit Inv-loop μ-loop
-emitted c = c .before .before .before .before .before .before .before .before
+low : (s : tie.Start Inv-loop μ-loop) (k : ℕ) → f s k ≤ 64
+low s k = omega (arith, height-low (occupied (s .args .table .now)) (s .args .w) (s .args .y) k, s .pre .1 .0 .0, s .pre .0 .highest)
 
-abbrev pushed-there : tie.After-slice-known10 Inv-loop μ-loop → tie.After-push Inv-loop μ-loop
-pushed-there c = c .before .before .before .before
+u-low : (c : tie.At-loop Inv-loop μ-loop) → c .loop .u ≤ 64
+u-low c = omega (arith, c .loop .inv .last, before-low (f (start c)) 64 (low (start c)) (c .loop .x))
 
--- from the end of a turn back to the height that it read
-abbrev read-there : tie.After-slice-known10 Inv-loop μ-loop → tie.After-height-at Inv-loop μ-loop
-read-there c = read (cut-there (emitted (pushed-there c .before) .before))
+-- x is a column
+on : (c : tie.In-loop Inv-loop μ-loop) → c .before .loop .x < start (c .before) .args .w
+on c = c .loop-test .taken
 
--- x is a column, or just past the last
-seen : (c : tie.In-loop Inv-loop μ-loop) → c .before .loop .x ≤ start (c .before) .args .w
-seen c = omega (arith, c .loop-test .taken)
+narrow : (c : tie.In-loop Inv-loop μ-loop) → c .before .loop .x < 64
+narrow c = omega (arith, on c, start (c .before) .pre .0 .widest)
 
 loop-holds : tie.Need-loop-holds Inv-loop μ-loop
-loop-holds c = walk-start _ _ _ _ _ _ _ _
+loop-holds c = go-start _ _ _ _ _ _ _ _
 
-height-at-requires : tie.Need-height-at-requires Inv-loop μ-loop
-height-at-requires c κs = let p = start (c .before) .pre in (p .0, p .1 .0 .0)
+stays-requires : tie.Need-stays-requires Inv-loop μ-loop
+stays-requires c κs = let p = start (c .before) .pre in (p .0, (p .1 .0 .0, on c, u-low (c .before)))
 
-cut-requires : tie.Need-cut-requires Inv-loop μ-loop
-cut-requires c κs =
-    let at-loop = looped (c .before) in
-    let w = at-loop .loop .inv in
-    (fits-sh w (seen (c .before .before)) (start at-loop .pre .1 .0 .2), rise w)
-
-left-of-requires : tie.Need-left-of-requires Inv-loop μ-loop
-left-of-requires c κs =
-    let at-at = read c in
-    omega (arith, seen (at-at .before), start (looped at-at) .pre .0 .widest)
-
-emit-requires : tie.Need-emit-requires Inv-loop μ-loop
-emit-requires c κs =
-    let at-cut = cut-there c in
-    let at-at = read at-cut in
-    let at-loop = looped at-at in
-    let w = at-loop .loop .inv in
-    let h = seen (at-at .before) in
-    let a = start at-loop .pre .1 .0 in
-    ((at-cut .cut .ensures .within, fits-sl w h (a .1), fits-sh w h (a .2)), fits-out w h _ (start at-loop .pre .1 .1))
-
-cast-push : tie.Need-cast-push Inv-loop μ-loop
-cast-push c =
-    let at-at = read (cut-there (emitted c .before)) in
-    omega (arith, seen (at-at .before), start (looped at-at) .pre .0 .widest)
-
-push-requires : tie.Need-push-requires Inv-loop μ-loop
-push-requires c κs =
-    let at-cut = cut-there (emitted c .before) in
-    let at-at = read at-cut in
-    let at-loop = looped at-at in
-    let w = at-loop .loop .inv in
-    let h = seen (at-at .before) in
-    let a = start at-loop .pre .1 .0 in
-    (fits-sl w h (a .1), (enters w h _ _ (height-past _ _ _ _ (le-refl _)) (at-at .height-at .ensures) (at-cut .cut .ensures) (a .1) (a .2), at-cut .cut .ensures))
-
-reach-requires : tie.Need-reach-requires Inv-loop μ-loop
-reach-requires c κs =
-    let at-at = read-there c in
-    let p = start (looped at-at) .pre in
-    (p .0, (p .1 .0 .0, at-at .height-at .ensures))
-
-stride-requires : tie.Need-stride-requires Inv-loop μ-loop
-stride-requires c κs =
-    let at-at = read-there (c .before) in
-    let p = start (looped at-at) .pre in
-    (p .0, (p .1 .0 .0, seen (at-at .before)))
-
--- the next column is still one, or just past the last
-on : (c : tie.After-stride Inv-loop μ-loop) → let at-loop = looped (read-there (c .before .before)) in
-    (at-loop .loop .x + c .stride .result ≤ start at-loop .args .w + 1) × (1 ≤ c .stride .result)
-on c = (c .stride .ensures .inside, c .stride .ensures .one)
+-- ---- it stays
 
 add-x : tie.Need-add-x Inv-loop μ-loop
-add-x c = omega (arith, on c, start (looped (read-there (c .before .before))) .pre .0 .widest)
+add-x c = omega (arith, narrow (c .before .before))
 
 loop-less : tie.Need-loop-less Inv-loop μ-loop
-loop-less c = omega (arith, on c, seen (read-there (c .before .before) .before))
+loop-less c = omega (arith, on (c .before .before))
 
 loop-again : tie.Need-loop-again Inv-loop μ-loop
 loop-again c =
-    let at-push = pushed-there (c .before .before) in
-    let at-emit = emitted (at-push .before) in
-    let at-cut = cut-there (at-emit .before) in
-    let at-at = read at-cut in
-    let w = looped at-at .loop .inv in
-    let a = start (looped at-at) .args in
-    let pk = at-push .push .kept in
-    let ek = at-emit .emit .kept in
-    let occ = occupied (a .table .now) in
-    walk-jump (heightOf occ (a .w) (a .y)) (support occ (a .w) (a .h) (a .y)) (λ k e. unheld occ (a .w) (a .y) k (a .h) e)
-    (walk-more w (seen (at-at .before)) _ _ _ _ _ _ _ _ _ _ _ (at-at .height-at .ensures) (at-cut .cut .ensures) (at-emit .before .before .before .before .before .before .left-of .ensures)
-    (pk .0) (pk .1 .0) (ek .1 .1 .1 .1 .1 .1 .1 .0) (ek .1 .1 .1 .1 .1 .1 .1 .1 .0) (ek .1 .1 .1 .1 .1 .1 .1 .1 .1 .0)
-    (at-emit .emit .ensures .0) (at-emit .emit .ensures .1) (at-push .push .ensures) (c .before .reach .ensures))
-    (c .stride .result) (c .stride .ensures .one) (c .stride .ensures .inside)
-    (λ p k u v. height-taken occ (a .w) (a .y) k (c .stride .ensures .over p k u v))
+    let l = c .before .before .before in
+    let s = start l in
+    let x = l .loop .x in
+    let e = sym (c .before .stays .ensures) ∙ c .if1 .taken in
+    let empty = and-left (not (occupied (s .args .table .now) x (s .args .y))) _ e in
+    go-stay (bare s) (l .loop .inv) (on (c .before .before)) (eqb-true (f s x) (l .loop .u) (and-right (not (occupied (s .args .table .now) x (s .args .y))) _ e))
+    (open-high (s .args .w) (s .args .table .now) x (s .args .y) (on (c .before .before)) (not-true _ empty))
+
+rises-requires : tie.Need-rises-requires Inv-loop μ-loop
+rises-requires c κs = let l = c .before .before .before in let p = start l .pre in (p .0, (p .1 .0 .0, on (c .before .before), u-low l))
+
+-- ---- it rises
+
+height-at-requires : tie.Need-height-at-requires Inv-loop μ-loop
+height-at-requires c κs = let p = start (c .before .before .before .before .before) .pre in (p .0, (p .1 .0 .0, on (c .before .before .before .before)))
+
+cast-push : tie.Need-cast-push Inv-loop μ-loop
+cast-push c = omega (arith, narrow (c .before .before .before .before .before .before .before))
+
+-- above the height before
+up : (c : tie.After-height-at Inv-loop μ-loop) → let l = c .before .before .before .before .before .before in l .loop .u < c .height-at .result
+up c = let l = c .before .before .before .before .before .before in omega (arith, ltb-true (l .loop .u) (f (start l) (l .loop .x)) (sym (c .before .before .rises .ensures) ∙ c .before .if2 .taken), c .height-at .ensures)
+
+push-requires : tie.Need-push-requires Inv-loop μ-loop
+push-requires c κs =
+    let l = c .before .before .before .before .before .before .before .before in
+    let i = l .loop .inv in
+    let a = start l .pre .1 .0 in
+    let v = c .before .before .height-at .ensures in
+    let k = cut-above (bare (start l)) (i .walked) (c .before .before .height-at .result) (omega (arith, up (c .before .before), i .last)) in
+    (fits-sl (i .walked) (i .inside) (a .1), (enters (i .walked) (i .inside) _ _ (height-past _ _ _ _ (le-refl _)) v k (a .1) (a .2), k))
+
+cast-u : tie.Need-cast-u Inv-loop μ-loop
+cast-u c = let l = c .before .before .before .before .before .before .before .before .before .before .before .before .before in omega (arith, c .before .before .before .before .before .before .before .height-at .ensures, low (start l) (l .loop .x))
+
+add-x-2 : tie.Need-add-x-2 Inv-loop μ-loop
+add-x-2 c = omega (arith, narrow (c .before .before .before .before .before .before .before .before .before .before .before .before))
+
+loop-less-2 : tie.Need-loop-less-2 Inv-loop μ-loop
+loop-less-2 c = omega (arith, on (c .before .before .before .before .before .before .before .before .before .before .before .before))
+
+loop-again-2 : tie.Need-loop-again-2 Inv-loop μ-loop
+loop-again-2 c =
+    let l = c .before .before .before .before .before .before .before .before .before .before .before .before .before in
+    let pk = c .before .before .before .before .push .kept in
+    go-rise (bare (start l)) (l .loop .inv) (on (c .before .before .before .before .before .before .before .before .before .before .before .before)) _ _ _ _ (c .before .before .before .before .before .before .before .height-at .ensures) (up (c .before .before .before .before .before .before .before)) (pk .0) (pk .1 .0) (c .before .before .before .before .push .ensures)
+
+-- ---- an occupied run goes on
+
+-- no height, so the cell is occupied
+none : (c : tie.Then3 Inv-loop μ-loop) → let l = c .before .before .before .before .before .before in f (start l) (l .loop .x) ≡ 0
+none c = let l = c .before .before .before .before .before .before in omega (arith, ltb-false (l .loop .u) (f (start l) (l .loop .x)) (sym (c .before .before .rises .ensures) ∙ c .before .if2 .left), c .if3 .taken)
+
+run-at-requires : tie.Need-run-at-requires Inv-loop μ-loop
+run-at-requires c κs =
+    let s = start (c .before .before .before .before .before .before) in
+    (s .pre .0, (s .pre .1 .0 .0, on (c .before .before .before .before .before), none-taken (s .args .w) (s .args .table .now) (c .before .before .before .before .before .before .loop .x) (s .args .y) (on (c .before .before .before .before .before)) (none c)))
+
+add-x-3 : tie.Need-add-x-3 Inv-loop μ-loop
+add-x-3 c = omega (arith, c .run-at .ensures .inside, start (c .before .before .before .before .before .before .before) .pre .0 .widest)
+
+loop-less-3 : tie.Need-loop-less-3 Inv-loop μ-loop
+loop-less-3 c = omega (arith, c .run-at .ensures .one, on (c .before .before .before .before .before .before))
+
+loop-again-3 : tie.Need-loop-again-3 Inv-loop μ-loop
+loop-again-3 c =
+    let l = c .before .before .before .before .before .before .before in
+    let s = start l in
+    let r = c .run-at .ensures in
+    go-skip (bare s) (l .loop .inv) (on (c .before .before .before .before .before .before)) (c .before .if3 .taken) _ (r .one) (r .inside) (λ k p q. height-taken (occupied (s .args .table .now)) (s .args .w) (s .args .y) k (r .over k p q))
+
+-- ---- it falls
+
+height-at-requires-2 : tie.Need-height-at-requires-2 Inv-loop μ-loop
+height-at-requires-2 c κs = let p = start (c .before .before .before .before .before .before) .pre in (p .0, (p .1 .0 .0, on (c .before .before .before .before .before)))
+
+settle-requires : tie.Need-settle-requires Inv-loop μ-loop
+settle-requires c κs =
+    let l = c .before .before .before .before .before .before .before in
+    let i = l .loop .inv in
+    let p = start l .pre in
+    (p .0, ((p .1 .0 .0, i .from, i .inside), (i .settled, i .empty)))
+
+cut-requires : tie.Need-cut-requires Inv-loop μ-loop
+cut-requires c κs =
+    let l = c .before .before .before .before .before .before .before .before .before in
+    let i = l .loop .inv in
+    (fits-sh (i .walked) (i .inside) (start l .pre .1 .0 .2), rise (i .walked))
+
+left-of-requires : tie.Need-left-of-requires Inv-loop μ-loop
+left-of-requires c κs = omega (arith, narrow (c .before .before .before .before .before .before .before .before .before))
+
+emit-requires : tie.Need-emit-requires Inv-loop μ-loop
+emit-requires c κs =
+    let l = c .before .before .before .before .before .before .before .before .before .before .before .before .before .before .before .before in
+    let i = l .loop .inv in
+    let a = start l .pre .1 .0 in
+    ((c .before .before .before .before .before .before .cut .ensures .within, fits-sl (i .walked) (i .inside) (a .1), fits-sh (i .walked) (i .inside) (a .2)), fits-out (i .walked) (i .inside) _ (start l .pre .1 .1))
+
+cast-push-2 : tie.Need-cast-push-2 Inv-loop μ-loop
+cast-push-2 c = omega (arith, narrow (c .before .before .before .before .before .before .before .before .before .before .before .before .before .before .before .before .before .before .before .before .before .before .before .before))
+
+push-requires-2 : tie.Need-push-requires-2 Inv-loop μ-loop
+push-requires-2 c κs =
+    let l = c .before .before .before .before .before .before .before .before .before .before .before .before .before .before .before .before .before .before .before .before .before .before .before .before .before in
+    let i = l .loop .inv in
+    let a = start l .pre .1 .0 in
+    let k = c .before .before .before .before .before .before .before .before .before .before .before .before .before .before .before .cut .ensures in
+    (fits-sl (i .walked) (i .inside) (a .1), (enters (i .walked) (i .inside) _ _ (height-past _ _ _ _ (le-refl _)) (c .before .before .before .before .before .before .before .before .before .before .before .before .before .before .before .before .before .before .height-at2 .ensures) k (a .1) (a .2), k))
+
+cast-u-2 : tie.Need-cast-u-2 Inv-loop μ-loop
+cast-u-2 c = let l = c .before .before .before .before .before .before .before .before .before .before .before .before .before .before .before .before .before .before .before .before .before .before .before .before .before .before .before .before .before .before in omega (arith, c .before .before .before .before .before .before .before .before .before .before .before .before .before .before .before .before .before .before .before .before .before .before .before .height-at2 .ensures, low (start l) (l .loop .x))
+
+begins-requires : tie.Need-begins-requires Inv-loop μ-loop
+begins-requires c κs = narrow (c .before .before .before .before .before .before .before .before .before .before .before .before .before .before .before .before .before .before .before .before .before .before .before .before .before .before .before .before .before)
+
+add-x-4 : tie.Need-add-x-4 Inv-loop μ-loop
+add-x-4 c = omega (arith, narrow (c .before .before .before .before .before .before .before .before .before .before .before .before .before .before .before .before .before .before .before .before .before .before .before .before .before .before .before .before .before .before))
+
+loop-less-4 : tie.Need-loop-less-4 Inv-loop μ-loop
+loop-less-4 c = omega (arith, on (c .before .before .before .before .before .before .before .before .before .before .before .before .before .before .before .before .before .before .before .before .before .before .before .before .before .before .before .before .before .before))
+
+loop-again-4 : tie.Need-loop-again-4 Inv-loop μ-loop
+loop-again-4 c =
+    let l = c .before .before .before .before .before .before .before .before .before .before .before .before .before .before .before .before .before .before .before .before .before .before .before .before .before .before .before .before .before .before .before in
+    let emitted = c .before .before .before .before .before .before .before .before .before .before .before .before .before .before in
+    let pk = c .before .before .before .before .before .push2 .kept in
+    let ek = emitted .emit .kept in
+    go-fall (bare (start l)) (l .loop .inv) (on (c .before .before .before .before .before .before .before .before .before .before .before .before .before .before .before .before .before .before .before .before .before .before .before .before .before .before .before .before .before .before)) _ _ _ _ _ _ _ _ _ _ _ _ (c .before .before .before .before .before .before .before .before .before .before .before .before .before .before .before .before .before .before .before .before .before .before .before .before .height-at2 .ensures) (c .before .before .before .before .before .before .before .before .before .before .before .before .before .before .before .before .before .before .before .before .before .cut .ensures) (c .before .before .before .before .before .before .before .before .before .before .before .before .before .before .before .before .before .before .before .before .left-of .ensures)
+    (pk .0) (pk .1 .0) (ek .1 .1 .1 .1 .1 .1 .1 .0) (ek .1 .1 .1 .1 .1 .1 .1 .1 .0) (ek .1 .1 .1 .1 .1 .1 .1 .1 .1 .0) (c .before .before .before .before .before .before .before .before .before .before .before .before .before .before .before .before .before .before .before .before .before .before .before .settle .ensures)
+    (emitted .emit .ensures .0) (emitted .emit .ensures .1) (c .before .before .before .before .before .push2 .ensures) (c .begins .ensures)
+
+-- ---- past the last column
+
+ended : (c : tie.After-loop Inv-loop μ-loop) → c .before .loop .x ≡ start (c .before) .args .w
+ended c = omega (arith, c .before .loop .inv .inside, c .loop-test .left)
+
+settle-requires-2 : tie.Need-settle-requires-2 Inv-loop μ-loop
+settle-requires-2 c κs =
+    let i = c .before .loop .inv in
+    let s = start (c .before) in
+    (s .pre .0, ((s .pre .1 .0 .0, omega (arith, i .from, i .inside), le-refl _), (i .settled, subst (λ a. Open (f s) (c .before .loop .lo) a) (ended c) (i .empty))))
+
+left-of-requires-2 : tie.Need-left-of-requires-2 Inv-loop μ-loop
+left-of-requires-2 c κs = omega (arith, start (c .before .before) .pre .0 .widest)
+
+emit-requires-2 : tie.Need-emit-requires-2 Inv-loop μ-loop
+emit-requires-2 c κs =
+    let l = c .before .before .before .before .before .before .before .before in
+    let i = l .loop .inv in
+    let a = start l .pre .1 .0 in
+    ((omega arith, fits-sl (i .walked) (i .inside) (a .1), fits-sh (i .walked) (i .inside) (a .2)), fits-out (i .walked) (i .inside) 0 (start l .pre .1 .1))
 
 same-length : tie.Need-same-length Inv-loop μ-loop
-same-length c = c .before .loop .inv .long-sl
+same-length c = c .before .before .before .before .before .before .before .before .before .before .before .before .before .before .before .loop .inv .walked .long-sl
 
 same-length-2 : tie.Need-same-length-2 Inv-loop μ-loop
-same-length-2 c = c .before .loop .inv .long-sh
+same-length-2 c = c .before .before .before .before .before .before .before .before .before .before .before .before .before .before .before .loop .inv .walked .long-sh
 
 same-length-3 : tie.Need-same-length-3 Inv-loop μ-loop
-same-length-3 c = c .before .loop .inv .long-l
+same-length-3 c = c .before .before .before .before .before .before .emit2 .kept .1 .1 .1 .1 .1 .1 .1 .0 ∙ c .before .before .before .before .before .before .before .before .before .before .before .before .before .before .before .loop .inv .walked .long-l
 
 same-length-4 : tie.Need-same-length-4 Inv-loop μ-loop
-same-length-4 c = c .before .loop .inv .long-r
+same-length-4 c = c .before .before .before .before .before .before .emit2 .kept .1 .1 .1 .1 .1 .1 .1 .1 .0 ∙ c .before .before .before .before .before .before .before .before .before .before .before .before .before .before .before .loop .inv .walked .long-r
 
 same-length-5 : tie.Need-same-length-5 Inv-loop μ-loop
-same-length-5 c = c .before .loop .inv .long-h
+same-length-5 c = c .before .before .before .before .before .before .emit2 .kept .1 .1 .1 .1 .1 .1 .1 .1 .1 .0 ∙ c .before .before .before .before .before .before .before .before .before .before .before .before .before .before .before .loop .inv .walked .long-h
 
 returns : tie.Need-returns Inv-loop μ-loop
 unfolding entriesIn
-returns c = (walk-end (c .before .loop .inv) (c .loop-test .left), c .before .loop .inv .rest)
+returns c =
+    let l = c .before .before .before .before .before .before .before .before .before .before .before .before .before .before .before in
+    let ek = c .before .before .before .before .before .before .emit2 .kept in
+    go-end (bare (start l)) (l .loop .inv) (c .before .before .before .before .before .before .before .before .before .before .before .before .before .before .loop-test .left) (height-past _ _ _ _ (le-refl _)) _ _ _ _ _ _ (c .before .before .before .before .before .before .before .before .before .before .before .before .left-of2 .ensures) (c .before .before .before .before .before .before .before .before .before .before .before .before .before .settle2 .ensures)
+    (ek .1 .1 .1 .1 .1 .1 .1 .0) (ek .1 .1 .1 .1 .1 .1 .1 .1 .0) (ek .1 .1 .1 .1 .1 .1 .1 .1 .1 .0) (c .before .before .before .before .before .before .emit2 .ensures .0) (c .before .before .before .before .before .before .emit2 .ensures .1)
 
 pub walk-spec : {M : Type 1} → statement M
 walk-spec =
@@ -153,17 +247,37 @@ walk-spec =
     Inv-loop
     μ-loop
     loop-holds
-    height-at-requires
-    cut-requires
-    left-of-requires
-    emit-requires
-    cast-push
-    push-requires
-    reach-requires
-    stride-requires
+    stays-requires
     add-x
     loop-less
     loop-again
+    rises-requires
+    height-at-requires
+    cast-push
+    push-requires
+    cast-u
+    add-x-2
+    loop-less-2
+    loop-again-2
+    run-at-requires
+    add-x-3
+    loop-less-3
+    loop-again-3
+    height-at-requires-2
+    settle-requires
+    cut-requires
+    left-of-requires
+    emit-requires
+    cast-push-2
+    push-requires-2
+    cast-u-2
+    begins-requires
+    add-x-4
+    loop-less-4
+    loop-again-4
+    settle-requires-2
+    left-of-requires-2
+    emit-requires-2
     same-length
     same-length-2
     same-length-3

@@ -4,16 +4,17 @@ use Prim.Native.Nat.{_+_, _-_, _≤_, _<_}
 use native.Mathlib.Omega.{arith}
 use lib.ListN.{length}
 use Rattle.rules.specs.Surface.{occupied}
-use Rattle.listing.proofs.Written.{Wrote, wrote-none, wrote-long, wrote-fits, wrote-more, wrote-all}
+use Rattle.listing.proofs.Counted.{Turned, turned-none, turned-more, turned-all}
+use Rattle.listing.proofs.Written.{Wrote, wrote-none, wrote-long, wrote-fits, wrote-more, wrote-all, wrote-count}
 use Rattle.listing.proofs.write_list.Statement.{statement}
 use Rattle.listing.proofs.write_list.Tie as tie
 
 abbrev Inv-loop : tie.InvT-loop
-Inv-loop w h weights table scans lefts₀ rights₀ heights₀ room₀ at₀ y₀ lefts rights heights room at y =
-    (length lefts ≡ length lefts₀) × (length rights ≡ length rights₀) × (length heights ≡ length heights₀) × Wrote (occupied table) w h room₀ room y at
+Inv-loop w h weights table scans lefts₀ rights₀ heights₀ room₀ at₀ turns₀ y₀ lefts rights heights room at turns y =
+    (length lefts ≡ length lefts₀) × (length rights ≡ length rights₀) × (length heights ≡ length heights₀) × Wrote (occupied table) w h room₀ room y at × Turned w h table turns y
 
 abbrev μ-loop : tie.MeasureT-loop
-μ-loop w h weights table scans lefts₀ rights₀ heights₀ room₀ at₀ y₀ lefts rights heights room at y = h - y
+μ-loop w h weights table scans lefts₀ rights₀ heights₀ room₀ at₀ turns₀ y₀ lefts rights heights room at turns y = h - y
 
 abbrev start : tie.At-loop Inv-loop μ-loop → tie.Start Inv-loop μ-loop
 start c = c .before .before .before .before .before .before .before
@@ -27,7 +28,7 @@ called c = c .before .before .before .before .before .before .before .before
 loop-holds : tie.Need-loop-holds Inv-loop μ-loop
 loop-holds c =
     let s = c .before .before .before .before .before .before in
-    (refl, refl, refl, wrote-none _ _ _ _ (s .pre .1 .1 .1))
+    (refl, refl, refl, wrote-none _ _ _ _ (s .pre .1 .1 .1), turned-none _ _ _)
 
 write-in-requires : tie.Need-write-in-requires Inv-loop μ-loop
 write-in-requires c κs =
@@ -37,19 +38,32 @@ write-in-requires c κs =
     let t = entered c .loop-test .taken in
     (p .0, ((t, p .1 .0), ((omega (arith, i .0, p .1 .1 .0 .0), omega (arith, i .1, p .1 .1 .0 .1), omega (arith, i .2, p .1 .1 .0 .2)), wrote-fits _ _ _ _ (p .1 .1 .1) _ _ _ (i .3) t)))
 
+corners-in-requires : tie.Need-corners-in-requires Inv-loop μ-loop
+corners-in-requires c κs =
+    let t = entered (called c .before) in
+    let p = start (t .before) .pre in
+    (p .0, (t .loop-test .taken, p .1 .0))
+
+add-turns : tie.Need-add-turns Inv-loop μ-loop
+add-turns c =
+    let t = entered (called (c .before) .before) in
+    let p = start (t .before) .pre .0 in
+    omega (arith, c .corners-in .ensures .1, t .before .loop .inv .4 .few, t .loop-test .taken, p .widest, p .highest)
+
 add-y : tie.Need-add-y Inv-loop μ-loop
-add-y c = omega (arith, entered (called c .before) .loop-test .taken)
+add-y c = omega (arith, entered (called (c .before) .before) .loop-test .taken)
 
 loop-less : tie.Need-loop-less Inv-loop μ-loop
-loop-less c = omega (arith, entered (called c .before) .loop-test .taken)
+loop-less c = omega (arith, entered (called (c .before) .before) .loop-test .taken)
 
 loop-again : tie.Need-loop-again Inv-loop μ-loop
 loop-again c =
-    let w = called c .write-in in
-    let t = entered (called c .before) in
+    let w = called (c .before) .write-in in
+    let t = entered (called (c .before) .before) in
+    let m = c .corners-in .ensures in
     let i = t .before .loop .inv in
     let k = w .kept .1 .1 .1 .1 .1 .1 in
-    (k .0 ∙ i .0, k .1 .0 ∙ i .1, k .1 .1 .0 ∙ i .2, wrote-more _ _ _ _ (start (t .before) .pre .1 .1 .1) _ _ _ _ _ (i .3) (t .loop-test .taken) (w .ensures .0) (w .ensures .1))
+    (k .0 ∙ i .0, k .1 .0 ∙ i .1, k .1 .1 .0 ∙ i .2, wrote-more _ _ _ _ (start (t .before) .pre .1 .1 .1) _ _ _ _ _ (i .3) (t .loop-test .taken) (w .ensures .0) (w .ensures .1), turned-more _ _ _ _ _ _ (i .4) (start (t .before) .pre .0 .widest) (m .0) (m .1))
 
 same-length : tie.Need-same-length Inv-loop μ-loop
 same-length c = c .before .loop .inv .0
@@ -64,7 +78,10 @@ same-length-4 : tie.Need-same-length-4 Inv-loop μ-loop
 same-length-4 c = wrote-long _ _ _ _ (start (c .before) .pre .1 .1 .1) _ _ _ (c .before .loop .inv .3)
 
 returns : tie.Need-returns Inv-loop μ-loop
-returns c = wrote-all _ _ _ _ (start (c .before) .pre .1 .1 .1) _ _ _ (c .before .loop .inv .3) (c .loop-test .left)
+returns c =
+    let i = c .before .loop .inv in
+    let fits = start (c .before) .pre .1 .1 .1 in
+    (wrote-all _ _ _ _ fits _ _ _ (i .3) (c .loop-test .left), (wrote-count _ _ _ _ fits _ _ _ (i .3) (c .loop-test .left), turned-all _ _ _ _ _ (i .4) (omega (arith, i .3 .upto, c .loop-test .left))))
 
 pub write-list-spec : {M : Type 1} → statement M
 write-list-spec =
@@ -74,6 +91,8 @@ write-list-spec =
     μ-loop
     loop-holds
     write-in-requires
+    corners-in-requires
+    add-turns
     add-y
     loop-less
     loop-again

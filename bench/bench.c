@@ -1,0 +1,615 @@
+/* The library beside the plain C, on the same bytes.
+ *
+ *   bench count            each measured call once, C before the library
+ *   bench table COUNTS     the table; COUNTS has the instructions of each call
+ *                          of "bench count", one a line, in its order
+ *   bench compare SEED N   N rounds of drawn surfaces and blocks, both compared
+ *
+ * Exit status 1 when results or bytes differ. */
+#define _POSIX_C_SOURCE 199309L
+#include "plain.h"
+#include "../include/freelist.h"
+#include "../tests/host/damage.h"
+#include "../tests/host/numbers.h"
+#include "../tests/host/surfaces.h"
+
+#include <stdio.h>
+#include <stdlib.h>
+#include <string.h>
+#include <time.h>
+
+/* The plain C once more under another name, so that what is counted is only
+ * what is measured. */
+uint64_t setup_run(uint64_t w, uint64_t h, uint8_t *weights, uint64_t weights_len,
+                   uint8_t *table, uint64_t table_len, const uint8_t *requests,
+                   uint64_t requests_len, uint8_t *answers, uint64_t answers_len);
+
+/* ---- both sides ------------------------------------------------------------ */
+
+enum { PLAIN, LIBRARY, SIDES };
+
+/* A call and what it is lent, small enough to be copied before each. */
+struct lent {
+    unsigned call, w, h, requests_len, room_len;
+    uint8_t weights[2 * 64 * 64], table[8 * 256], requests[8 * 512], answers[8 * 512], room[8 * 64 * 64];
+};
+
+static uint64_t on_plain(struct lent *l)
+{
+    unsigned cells = 2 * l->w * l->h, slots = sizeof l->table;
+    switch (l->call) {
+    case CLEAR: return plain_clear(l->w, l->h, l->weights, cells, l->table, slots);
+    case CHECK: return plain_check(l->w, l->h, l->weights, cells, l->table, slots);
+    case LIST: return plain_list(l->w, l->h, l->weights, cells, l->table, slots, l->room, l->room_len);
+    default: return plain_run(l->w, l->h, l->weights, cells, l->table, slots,
+                              l->requests, l->requests_len, l->answers, l->requests_len);
+    }
+}
+
+static uint64_t on_library(struct lent *l)
+{
+    unsigned cells = 2 * l->w * l->h, slots = sizeof l->table;
+    switch (l->call) {
+    case CLEAR: return freelist_clear(l->w, l->h, l->weights, cells, l->table, slots);
+    case CHECK: return freelist_check(l->w, l->h, l->weights, cells, l->table, slots);
+    case LIST: return freelist_list(l->w, l->h, l->weights, cells, l->table, slots, l->room, l->room_len);
+    default: return freelist_run(l->w, l->h, l->weights, cells, l->table, slots,
+                                 l->requests, l->requests_len, l->answers, l->requests_len);
+    }
+}
+
+static uint64_t on(unsigned side, struct lent *l) { return side == PLAIN ? on_plain(l) : on_library(l); }
+
+/* ---- rows of the table ------------------------------------------------------ */
+
+enum { MEASURED = 160 };
+
+struct row {
+    const char *name;
+    unsigned first, calls;              /* measured calls, averaged */
+    int is_shown;
+};
+
+static struct lent measured[MEASURED];
+static struct row rows[MEASURED];
+static unsigned calls, row_count;
+
+static struct lent *add_call(unsigned call, const struct lent *surface)
+{
+    struct lent *l = &measured[calls++];
+    if (calls > MEASURED)
+        abort();
+    *l = *surface;
+    l->call = call;
+    l->room_len = sizeof l->room;
+    memset(l->room, 0xa5, sizeof l->room);
+    memset(l->answers, 0xa5, sizeof l->answers);
+    return l;
+}
+
+static void add_row(const char *name, unsigned n, int is_shown)
+{
+    rows[row_count++] = (struct row){ name, calls - n, n, is_shown };
+}
+
+/* ---- surfaces ---------------------------------------------------------------- */
+
+static struct call_case c;
+static unsigned W, H, modules, taken_cells;
+static uint8_t taken[64][64];
+
+static void begin(unsigned w, unsigned h)
+{
+    W = w;
+    H = h;
+    modules = taken_cells = 0;
+    memset(taken, 0, sizeof taken);
+    memset(c.lent[TABLE].byte, 0, 8 * 256);
+    c.w = w;
+    c.h = h;
+    c.lent[WEIGHTS].len = 2 * w * h;
+    c.lent[TABLE].len = 8 * 256;
+}
+
+static int can_lay(unsigned x, unsigned y, unsigned w, unsigned h)
+{
+    if (modules == 256 || x + w > W || y + h > H)
+        return 0;
+    for (unsigned j = y; j < y + h; j++)
+        for (unsigned i = x; i < x + w; i++)
+            if (taken[j][i])
+                return 0;
+    return 1;
+}
+
+/* The module in the next slot, where it can be laid. */
+static void lay(unsigned x, unsigned y, unsigned w, unsigned h)
+{
+    if (!can_lay(x, y, w, h))
+        return;
+    uint8_t *s = c.lent[TABLE].byte + 8 * modules++;
+    uint8_t slot[8] = { (uint8_t)(modules % 256), (uint8_t)(modules / 256), (uint8_t)x, (uint8_t)y,
+                        (uint8_t)w, (uint8_t)h, 0, 0 };
+    memcpy(s, slot, 8);
+    for (unsigned j = y; j < y + h; j++)
+        memset(&taken[j][x], 1, w);
+    taken_cells += w * h;
+}
+
+static const struct lent *painted(void)
+{
+    static struct lent l;
+    paint(&c, 1);
+    l.w = W;
+    l.h = H;
+    memcpy(l.weights, c.lent[WEIGHTS].byte, sizeof l.weights);
+    memcpy(l.table, c.lent[TABLE].byte, sizeof l.table);
+    return &l;
+}
+
+/* Modules drawn, then smaller and smaller ones for the gaps. Where little is to
+ * stay empty, larger ones first, so that 256 do. */
+static void occupy(unsigned percent)
+{
+    unsigned goal = W * H * percent / 100, dense = percent > 50;
+    for (unsigned limit = dense ? W / 4 : W / 8 + 2; limit > 0; limit--)
+        for (unsigned tries = 0; tries < 2000 && taken_cells < goal; tries++) {
+            unsigned x = below(W), y = below(H), least = dense ? (limit + 1) / 2 : 1;
+            unsigned w = from_to(least, limit), h = from_to(least, limit);
+            if (taken_cells + w * h <= goal + 3)
+                lay(x, y, w, h);
+        }
+}
+
+static void nothing(void) { }
+
+static void checkerboard(void)
+{
+    for (unsigned y = 0; y < H; y++)
+        for (unsigned x = y % 2; x < W; x += 2)
+            lay(x, y, 1, 1);
+}
+
+/* Four single cells in every row. */
+static void spread(void)
+{
+    for (unsigned y = 0; y < H; y++)
+        for (unsigned i = 0; i < 4; i++)
+            lay((16 * i + 5 * y) % W, y, 1, 1);
+}
+
+static void falling_diagonal(void)
+{
+    for (unsigned y = 0; y < H; y++)
+        lay(y % W, y, 1, 1);
+}
+
+static void rising_diagonal(void)
+{
+    for (unsigned y = 0; y < H; y++)
+        lay(W - 1 - y % W, y, 1, 1);
+}
+
+/* Columns hanging from the top, so that the weights below rise to the right, and
+ * single cells at the left edge in every second row below. */
+static void hanging_stairs(void)
+{
+    for (unsigned x = 0; x < W; x += 2)
+        lay(x, 0, 2, H / 2 + 1 - x / 2);
+    for (unsigned y = H / 2 + 3; y < H; y += 2)
+        lay(0, y, 1, 1);
+}
+
+/* The same over a floor of single cells in every other column. */
+static void stairs_on_a_floor(void)
+{
+    for (unsigned x = 0; x < W; x++)
+        lay(x, 0, 1, H - 6 - 3 * x / 4);
+    for (unsigned y = H - 4; y < H; y += 2)
+        for (unsigned x = 0; x < W; x += 2)
+            lay(x, y, 1, 1);
+}
+
+static void lying(void)
+{
+    unsigned w = W / 8;
+    for (unsigned y = 1; y < H; y += 2)
+        for (unsigned x = y / 2 % 2; x < W; x += w)
+            lay(x, y, w - 1, 1);
+}
+
+static void upright(void)
+{
+    unsigned h = H / 8;
+    for (unsigned y = 1; y < H; y += h + 1)
+        for (unsigned x = 0; x < W; x += 2)
+            lay(x, y, 1, 1 + x / 2 % h);
+}
+
+static const struct { const char *name; unsigned w, h; void (*make)(void); } worst[] = {
+    { "list, empty", 64, 64, nothing },
+    { "list, checkerboard", 16, 16, checkerboard }, { "list, checkerboard", 32, 16, checkerboard },
+    { "list, single cells spread", 64, 64, spread },
+    { "list, diagonal, weights falling", 64, 64, falling_diagonal },
+    { "list, diagonal, weights rising", 64, 64, rising_diagonal },
+    { "list, hanging stairs", 64, 64, hanging_stairs },
+    { "list, stairs on a floor", 64, 64, stairs_on_a_floor },
+    { "list, thin lying", 64, 64, lying }, { "list, thin upright", 64, 64, upright } };
+
+static void add_surface(const char *list, const char *check)
+{
+    const struct lent *l = painted();
+    add_call(CHECK, l);
+    add_row(check, 1, strcmp(check, "") != 0);
+    add_call(LIST, l);
+    add_row(list, 1, 1);
+}
+
+static void add_surfaces(void)
+{
+    static const char *const lists[] = { "list, 10 %", "list, 50 %", "list, 90 %" };
+    static const char *const checks[] = { "check, 10 %", "check, 50 %", "check, 90 %" };
+    static const unsigned percents[] = { 10, 50, 90 };
+    for (unsigned side = 16; side <= 64; side *= 2)
+        for (unsigned i = 0; i < 3; i++) {
+            numbers_from(side + percents[i]);
+            begin(side, side);
+            occupy(percents[i]);
+            add_surface(lists[i], checks[i]);
+        }
+    for (unsigned i = 0; i < sizeof worst / sizeof worst[0]; i++) {
+        begin(worst[i].w, worst[i].h);
+        worst[i].make();
+        add_surface(worst[i].name, "");
+    }
+}
+
+/* ---- blocks of 512 under document 000's load ---------------------------------- */
+
+enum { UNITS = 1001 };
+
+static struct lent now;
+static uint16_t ends_at[UNITS][64];     /* ids, by time of end; one arrival a unit */
+static uint8_t ends[UNITS];
+static unsigned last_id, unit;
+
+static uint64_t request(unsigned op, unsigned rule, unsigned id, unsigned w, unsigned h, unsigned x, unsigned y)
+{
+    return op | rule << 8 | (uint64_t)id << 16 | (uint64_t)w << 32 | (uint64_t)h << 40
+        | (uint64_t)x << 48 | (uint64_t)y << 56;
+}
+
+/* The request done on the surface of now; 1 where it was accepted. */
+static int ask_now(uint8_t *to, uint64_t q)
+{
+    uint8_t answer[8];
+    memcpy(to, &q, 8);
+    uint64_t r = setup_run(now.w, now.h, now.weights, 2 * now.w * now.h, now.table, sizeof now.table,
+                           to, 8, answer, 8);
+    if ((r & 0xffff) != 0)
+        abort();
+    return answer[0] == 0;
+}
+
+static uint64_t arrival(unsigned longest)
+{
+    unsigned w = from_to(1, longest), h = from_to(1, longest), rule = below(3), kind = below(20);
+    unsigned x = below(now.w), y = below(now.h), slot = below(32);
+    unsigned old = now.table[8 * slot] + 256u * now.table[8 * slot + 1];
+    if (kind == 0)
+        return request(3, 0, ++last_id, w, h, x, y);
+    if (kind == 1 && old != 0)
+        return request(4, rule, old, w, h, 0, 0);
+    return request(1, rule, ++last_id, w, h, 0, 0);
+}
+
+/* The requests of some time units: departures, then an arrival. */
+static unsigned next_requests(uint8_t *to, unsigned most, unsigned longest, unsigned lifetime)
+{
+    unsigned n = 0;
+    while (n < most) {
+        unsigned t = unit % UNITS;
+        if (ends[t] > 0) {
+            unsigned id = ends_at[t][--ends[t]];
+            ask_now(to + 8 * n++, request(2, 0, id, 0, 0, 0, 0));
+            continue;
+        }
+        uint64_t q = arrival(longest);
+        unsigned end = (unit + from_to(1, lifetime)) % UNITS, is_new = (q & 255) != 4;
+        if (ask_now(to + 8 * n++, q) && is_new && ends[end] < 64)
+            ends_at[end][ends[end]++] = (uint16_t)last_id;
+        unit++;
+    }
+    return n;
+}
+
+static void add_blocks(const char *name, unsigned side, unsigned longest, unsigned lifetime, unsigned n)
+{
+    static uint8_t warm[8 * 2000];
+    numbers_from(side + lifetime);
+    begin(side, side);
+    now = *painted();
+    last_id = unit = 0;
+    memset(ends, 0, sizeof ends);
+    next_requests(warm, 2000, longest, lifetime);
+    for (unsigned i = 0; i < n; i++) {
+        struct lent *l = add_call(RUN, &now);
+        l->requests_len = 8 * 512;
+        next_requests(l->requests, 512, longest, lifetime);
+    }
+    add_row(name, n, 1);
+}
+
+/* ---- small blocks, and clear --------------------------------------------------- */
+
+static void add_block_of(const char *name, const struct lent *surface, unsigned n, uint64_t q)
+{
+    struct lent *l = add_call(RUN, surface);
+    memcpy(l->requests, &q, 8);
+    l->requests_len = 8 * n;
+    add_row(name, 1, 1);
+}
+
+static void add_small_blocks(unsigned side)
+{
+    numbers_from(side + 50);
+    begin(side, side);
+    occupy(50);
+    const struct lent *l = painted();
+    unsigned x = 0, y = side / 2;
+    while (taken[y][x])
+        x++;
+    add_block_of("run, empty block", l, 0, 0);
+    add_block_of("run, 1 place 2×2, rule 1", l, 1, request(1, 1, 999, 2, 2, 0, 0));
+    add_block_of("run, 1 place refused (20)", l, 1, request(1, 0, 999, side / 2, side / 2, 0, 0));
+    add_block_of("run, 1 remove", l, 1, request(2, 0, 1, 0, 0, 0, 0));
+    add_block_of("run, 1 pin 1×1", l, 1, request(3, 0, 999, 1, 1, x, y));
+}
+
+static void make_all(void)
+{
+    add_surfaces();
+    add_blocks("run 512, sides 1–25, lives 1–1000", 64, 25, 1000, 4);
+    add_blocks("run 512, sides 1–25, lives 1–50", 64, 25, 50, 4);
+    add_blocks("run 512, sides 1–8, lives 1–500", 64, 8, 500, 4);
+    add_blocks("run 512, sides 1–12, lives 1–1000", 32, 12, 1000, 4);
+    add_small_blocks(16);
+    add_small_blocks(64);
+    for (unsigned side = 16; side <= 64; side *= 2) {
+        begin(side, side);
+        checkerboard();
+        add_call(CLEAR, painted());
+        add_row("clear", 1, 1);
+    }
+}
+
+/* ---- the same result and bytes --------------------------------------------------- */
+
+static unsigned long differ;
+
+static int is_same(const struct lent *a, const struct lent *b, uint64_t ra, uint64_t rb)
+{
+    return ra == rb && memcmp(a->weights, b->weights, sizeof a->weights) == 0
+        && memcmp(a->table, b->table, sizeof a->table) == 0
+        && memcmp(a->answers, b->answers, sizeof a->answers) == 0
+        && memcmp(a->room, b->room, sizeof a->room) == 0;
+}
+
+/* Both once; the results and the bytes compared. */
+static uint64_t both_on(const struct lent *l, const char *name)
+{
+    static struct lent a, b;
+    a = b = *l;
+    uint64_t ra = on_plain(&a), rb = on_library(&b);
+    if (!is_same(&a, &b, ra, rb)) {
+        if (differ++ == 0)
+            fprintf(stderr, "bench: differs: %s, %u×%u: %llx %llx\n", name, l->w, l->h,
+                    (unsigned long long)ra, (unsigned long long)rb);
+    }
+    return ra;
+}
+
+static int count(void)
+{
+    make_all();
+    for (unsigned i = 0; i < row_count; i++)
+        for (unsigned k = 0; k < rows[i].calls; k++)
+            if ((both_on(&measured[rows[i].first + k], rows[i].name) & 0xffff) != 0)
+                differ++;
+    return differ != 0;
+}
+
+/* ---- time --------------------------------------------------------------------------- */
+
+static double seconds(void)
+{
+    struct timespec t;
+    clock_gettime(CLOCK_MONOTONIC, &t);
+    return (double)t.tv_sec + 1e-9 * (double)t.tv_nsec;
+}
+
+/* One call on fresh bytes; where it writes nothing that it reads, several. */
+static double time_of(unsigned side, const struct lent *l)
+{
+    static struct lent copy;
+    unsigned n = l->call == RUN ? 1 : 16;
+    copy = *l;
+    double from = seconds();
+    for (unsigned i = 0; i < n; i++)
+        on(side, &copy);
+    return (seconds() - from) / n;
+}
+
+/* The least of the rounds for each side, the sides in turn. */
+static void times_of(const struct row *r, double least[SIDES])
+{
+    least[PLAIN] = least[LIBRARY] = 0;
+    for (unsigned k = 0; k < r->calls; k++) {
+        const struct lent *l = &measured[r->first + k];
+        double best[SIDES] = { 1e9, 1e9 };
+        double until = seconds() + 0.25 / r->calls;
+        for (unsigned i = 0; i < 15 || seconds() < until; i++)
+            for (unsigned side = 0; side < SIDES; side++) {
+                double t = time_of(side, l);
+                best[side] = t < best[side] ? t : best[side];
+            }
+        for (unsigned side = 0; side < SIDES; side++)
+            least[side] += best[side] / r->calls;
+    }
+}
+
+/* ---- the table ------------------------------------------------------------------------ */
+
+static unsigned long counted[MEASURED][SIDES];
+
+static void read_counts(const char *path)
+{
+    FILE *f = fopen(path, "r");
+    for (unsigned i = 0; i < calls; i++)
+        for (unsigned side = 0; side < SIDES; side++)
+            if (f == NULL || fscanf(f, "%lu", &counted[i][side]) != 1) {
+                fprintf(stderr, "bench: too few counts\n");
+                exit(2);
+            }
+    fclose(f);
+}
+
+static unsigned long average(const struct row *r, unsigned side)
+{
+    unsigned long sum = 0;
+    for (unsigned k = 0; k < r->calls; k++)
+        sum += counted[r->first + k][side];
+    return sum / r->calls;
+}
+
+/* Modules, occupied cells and scanned cells of a surface. */
+static void measure(const struct lent *l, unsigned *used, unsigned *occupied, unsigned *scanned)
+{
+    uint8_t is_scanned[65] = { 0 };
+    *used = *occupied = *scanned = 0;
+    is_scanned[l->h] = 1;
+    for (unsigned i = 0; i < sizeof l->table; i += 8) {
+        const uint8_t *s = l->table + i;
+        *used += is_used(s) ? 1 : 0;
+        *occupied += s[4] * s[5];
+        if (is_used(s))
+            is_scanned[s[3]] = 1;
+    }
+    for (unsigned y = 1; y <= l->h; y++)
+        *scanned += is_scanned[y] * l->w;
+}
+
+static void print_row(const struct row *r)
+{
+    const struct lent *l = &measured[r->first];
+    unsigned used, occupied, scanned;
+    double t[SIDES];
+    double plain = (double)average(r, PLAIN), library = (double)average(r, LIBRARY);
+    measure(l, &used, &occupied, &scanned);
+    times_of(r, t);
+    printf("| %s | %u×%u | %u | %u | %u | %.0f | %.0f | %.2f | %.2f |", r->name, l->w, l->h, used,
+           100 * occupied / (l->w * l->h), scanned, plain, library, library / plain, t[LIBRARY] / t[PLAIN]);
+    if (l->call == LIST) {
+        const struct row *check = r - 1;
+        for (unsigned side = 0; side < SIDES; side++)
+            printf(" %.1f (whole %.1f) |", (double)(average(r, side) - average(check, side)) / scanned,
+                   (double)average(r, side) / scanned);
+        printf("\n");
+    } else {
+        printf(" | |\n");
+    }
+    fflush(stdout);
+}
+
+static int table(const char *path)
+{
+    make_all();
+    read_counts(path);
+    printf("| case | W×H | modules | occupied %% | scanned cells | instructions C | instructions freelist |"
+           " ratio | time ratio | C per scanned cell, list less check | freelist per scanned cell |\n"
+           "|---|---|---|---|---|---|---|---|---|---|---|\n");
+    for (unsigned i = 0; i < row_count; i++)
+        if (rows[i].is_shown)
+            print_row(&rows[i]);
+    return 0;
+}
+
+/* ---- compare ----------------------------------------------------------------------------- */
+
+static unsigned long compared;
+
+static void compare_call(struct lent *l, unsigned call)
+{
+    l->call = call;
+    both_on(l, call_names[call]);
+    compared++;
+}
+
+static uint64_t some_request(void)
+{
+    unsigned op = one_in(30) ? any_byte() : from_to(1, 4), rule = one_in(30) ? any_byte() : below(3);
+    unsigned id = one_in(40) ? 0 : from_to(1, 40), w = one_in(20) ? any_byte() : from_to(1, W / 2 + 1);
+    unsigned h = one_in(20) ? any_byte() : from_to(1, H / 2 + 1), x = below(W), y = below(H);
+    if (op == 2 && !one_in(20))
+        rule = w = h = 0;
+    if (op == 3 && !one_in(20))
+        rule = 0;
+    if (op != 3 && !one_in(30))
+        x = y = 0;
+    return request(op, rule, id, w, h, x, y);
+}
+
+/* Weights and table drawn; check, list with rooms enough and too short, a block. */
+static void compare_surface(void)
+{
+    static struct lent l;
+    W = l.w = (unsigned)c.w;
+    H = l.h = (unsigned)c.h;
+    memset(l.weights, 0, sizeof l.weights);
+    memset(l.table, 0, sizeof l.table);
+    memcpy(l.weights, c.lent[WEIGHTS].byte, c.lent[WEIGHTS].len);
+    memcpy(l.table, c.lent[TABLE].byte, c.lent[TABLE].len);
+    memset(l.room, 0xa5, sizeof l.room);
+    memset(l.answers, 0xa5, sizeof l.answers);
+    compare_call(&l, CHECK);
+    l.room_len = sizeof l.room;
+    compare_call(&l, LIST);
+    l.room_len = below(40) * 4;
+    compare_call(&l, LIST);
+    l.requests_len = 8 * from_to(0, 40);
+    for (unsigned i = 0; i < l.requests_len; i += 8) {
+        uint64_t q = some_request();
+        memcpy(l.requests + i, &q, 8);
+    }
+    compare_call(&l, RUN);
+    compare_call(&l, CLEAR);
+}
+
+static int compare(uint64_t seed, unsigned long n)
+{
+    numbers_from(seed);
+    for (unsigned long i = 0; i < n; i++) {
+        small_surface(&c, (unsigned)(i % SHAPES));
+        compare_surface();
+        damaged_surface(&c, (unsigned)(i % DAMAGES), small_surface);
+        compare_surface();
+        if (i % 8 == 0) {
+            large_surface(&c, (unsigned)(i / 8 % SHAPES));
+            compare_surface();
+        }
+    }
+    printf("bench: %lu calls compared, %lu differ\n", compared, differ);
+    return differ != 0;
+}
+
+int main(int argc, char **argv)
+{
+    if (argc == 2 && strcmp(argv[1], "count") == 0)
+        return count();
+    if (argc == 3 && strcmp(argv[1], "table") == 0)
+        return table(argv[2]);
+    if (argc == 4 && strcmp(argv[1], "compare") == 0)
+        return compare(strtoull(argv[2], NULL, 10), strtoul(argv[3], NULL, 10));
+    fprintf(stderr, "bench count\nbench table COUNTS\nbench compare SEED N\n");
+    return 2;
+}

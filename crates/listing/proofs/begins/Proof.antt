@@ -1,0 +1,17 @@
+-- `listing::begins` meets its contract. Assumes nothing.
+use borrow.Author.Tests.{eq-eqb, ne-eqb}
+use borrow.Author.Needs.{needs}
+use Rattle.listing.proofs.begins.Statement.{statement}
+use Rattle.listing.proofs.begins.Tie as tie
+
+add-result : tie.Need-add-result
+add-result c = search needs
+
+returns : tie.Need-returns
+returns c = rw (eq-eqb (c .before .args .v) 0 (c .if1 .taken))
+
+returns-2 : tie.Need-returns-2
+returns-2 c = rw (ne-eqb (c .before .args .v) 0 (c .if1 .left))
+
+pub begins-spec : {M : Type 1} → statement M
+begins-spec = tie.close (tie.spec add-result returns returns-2)
