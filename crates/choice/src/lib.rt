@@ -191,7 +191,8 @@ fn best_row(
     if !row_has_room(w, h, weights, table, y, mw, mh) {
         return b;
     }
-    let n = listing::row(w, h, weights, table, y, lefts, rights, heights);
+    let c = listing::row(w, h, weights, table, y, lefts, rights, heights);
+    let n = c.entries;
     best_in(w, h, mw, mh, rule, y, n, lefts, rights, heights, b)
 }
 

@@ -11,7 +11,7 @@ use lib.Dec.{leb, ltb, eqb}
 use lib.IntN.{ℤ, pos, negsuc, negℤ}
 use lib.ListN.{length}
 use lib.Signed.{ltZ}
-use borrow.Author.Tests.{lt-ltb, le-ltb, leb-true, le-leb, not-true}
+use borrow.Author.Tests.{lt-ltb, le-ltb, leb-true, le-leb, eqb-false, not-true}
 use Rattle.rules.specs.Tests.{every, eqZ}
 use Rattle.rules.specs.Surface.{rect, covers, slots, byte, idOf, rectOf, spareZero, usedSlot, freeSlot, holds, occupied, holder, upwards, remaining, weight, cell, soundSlot, slotsSound, Standing}
 use Rattle.rules.specs.declared.Rect.{Rect}
@@ -62,6 +62,11 @@ module _ (occ : ℕ → ℕ → Bool) (W y x : ℕ) where
       pos-of : (v : ℕ) → (v ≡ 0 → ⊥) → 0 < v
       pos-of zero n = absurd (n refl)
       pos-of (suc v) n = omega arith
+
+-- a cell that does not stay at u but has that height is occupied
+pub stays-not : (b : Bool) (a u : ℕ) → (not b && eqb a u) ≡ false → a ≡ u → b ≡ true
+stays-not true a u e q = refl
+stays-not false a u e q = absurd (eqb-false a u e q)
 
 -- an empty cell has a height
 pub open-high : (W : ℕ) (t : List ℕ) (x y : ℕ) → x < W → occupied t x y ≡ false → heightOf (occupied t) W y x ≡ 0 → ⊥

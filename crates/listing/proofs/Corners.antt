@@ -16,7 +16,7 @@ use Rattle.rules.specs.Surface.{occupied, upwards, weight}
 use Rattle.rules.specs.Empties.{scanned, corner}
 use Rattle.rules.proofs.Tests.{total-same}
 use Rattle.meaning.proofs.Weights.{weight-occupied, weight-empty, upwards-pos}
-use Rattle.listing.specs.Row.{before}
+use Rattle.listing.specs.Row.{before, turns}
 use Rattle.listing.specs.Listed.{heightOf}
 use Rattle.listing.proofs.Stairs.{cmp}
 use Rattle.listing.proofs.Cells.{height-in, height-past, height-taken}
@@ -56,11 +56,7 @@ module _ (W H : ℕ) (t : List ℕ) (y : ℕ) (s : scanned H t y ≡ true) where
           (λ (q : suc x < W). rw (e, s, ne-eqb (suc x) W (λ z. omega arith)) (neighbour x q e))
           (eq-or-lt-of-le p)
 
--- ---- how many heights among the first x are smaller than the one before
-
-unfoldable pub turns : (ℕ → ℕ) → ℕ → ℕ
-turns f zero = 0
-turns f (suc x) = turns f x + cond (ltb (f x) (before f x)) 1 0
+-- ---- as many as the heights that are smaller than the one before
 
 pub turns-le : (f : ℕ → ℕ) (x : ℕ) → turns f x ≤ x
 unfolding turns
@@ -75,14 +71,6 @@ turns-count : (f : ℕ → ℕ) (w : ℕ) → turns f (suc w) ≡ count w (λ x.
 unfolding turns total before
 turns-count f zero = rw (le-ltb (f 0) 0 (omega arith))
 turns-count f (suc w) = ap (λ n. n + cond (ltb (f (suc w)) (f w)) 1 0) (turns-count f w)
-
-pub turns-first : (f : ℕ → ℕ) → turns f 1 ≡ 0
-unfolding turns before
-turns-first f = rw (le-ltb (f 0) 0 (omega arith))
-
-pub turns-next : (f : ℕ → ℕ) (c n k z v : ℕ) → n ≡ turns f (c + 1) → k ≡ cond (ltb v z) 1 0 → z ≡ f c → v ≡ f (c + 1) → n + k ≡ turns f (c + 1 + 1)
-unfolding turns before
-turns-next f c n k z v en ek ez ev = rw (en, ek, ez, ev, add-one c, add-one (suc c))
 
 -- past the last column every corner is counted
 pub turns-corners : (W H : ℕ) (t : List ℕ) (y n : ℕ) → scanned H t y ≡ true → n ≡ turns (heightOf (occupied t) W y) (W + 1) → n ≡ count W (λ x. corner W H t x y)

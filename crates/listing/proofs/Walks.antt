@@ -11,7 +11,7 @@ use native.Mathlib.Omega.{arith}
 use lib.ListN.{length, getD, length-append}
 use lib.Dec.{ltb, eqb}
 use borrow.Author.Tests.{lt-ltb, le-ltb, eqb-true, eqb-false}
-use Rattle.listing.specs.Row.{Entry, Stair, before, rowEntries, stairs, stairsFrom, reach, leaving, pushed, span, stairAt, entryAt, stack, rows, Rises, CutAt, Open, Rest}
+use Rattle.listing.specs.Row.{Entry, Stair, before, rowEntries, stairs, stairsFrom, reach, leaving, pushed, span, stairAt, entryAt, stack, rows, turns, Rises, CutAt, Open, Rest}
 use Rattle.listing.proofs.Stairs.{cmp, none-leaves, Rising, stairs-rising, push-law, ended, ended-law, count-le, entries-le}
 use Rattle.listing.proofs.Turns.{rest-more, push-none}
 use Rattle.listing.proofs.Spans.{length-span, span-more, span-next, span-end, rises, cut-none, leaving-cut, pushed-there, pushed-zero}
@@ -286,22 +286,24 @@ module _ {f : ℕ → ℕ} {b : ℕ → Bool} (bare : (k : ℕ) → f k ≡ 0 �
           (ap (stack sl sh) (sym q) ∙ span-more (stairAt sl sh) k ∙ ap (λ a. stack sl sh k ++ (record { left = getD sl k 0; high = a } ∷ [])) high
           ∙ sym (ap (λ d. pushed d v x (stack sl sh n)) (lt-ltb 0 v (omega arith)) ∙ pushed-there sl sh n v k c x ∙ ap (λ d. stack sl sh k ++ (record { left = cond d (getD sl k 0) x; high = v } ∷ [])) (lt-ltb k n (omega arith)))) next-reach
 
--- ---- THE INVARIANT: u is the height before x; e is as far as there is support among the first lo cells, and from lo on all are empty
+-- ---- THE INVARIANT: u is the height before x; k is how often it has fallen; e is as far as there is support among the first lo cells, and from lo on all are empty
 
-pub record Going (f : ℕ → ℕ) (b : ℕ → Bool) (w : ℕ) (sl₀ sh₀ ls₀ rs₀ es₀ sl sh ls rs es : List ℕ) (n m e u lo x : ℕ) : Type 0 where
+pub record Going (f : ℕ → ℕ) (b : ℕ → Bool) (w : ℕ) (sl₀ sh₀ ls₀ rs₀ es₀ sl sh ls rs es : List ℕ) (n m k e u lo x : ℕ) : Type 0 where
   pub walked : Walked f b w sl₀ sh₀ ls₀ rs₀ es₀ sl sh ls rs es n m (reach b x) x
   pub inside : x ≤ w
   pub last : u ≡ before f x
+  pub fallen : k ≡ turns f x
   pub settled : e ≡ reach b lo
   pub from : lo ≤ x
   pub empty : Open f lo x
 
-pub go-start : (f : ℕ → ℕ) (b : ℕ → Bool) (w : ℕ) (sl sh ls rs es : List ℕ) → Going f b w sl sh ls rs es sl sh ls rs es 0 0 0 0 0 0
-unfolding reach before
+pub go-start : (f : ℕ → ℕ) (b : ℕ → Bool) (w : ℕ) (sl sh ls rs es : List ℕ) → Going f b w sl sh ls rs es sl sh ls rs es 0 0 0 0 0 0 0
+unfolding reach before turns
 go-start f b w sl sh ls rs es = record {
   walked = walk-start f b w sl sh ls rs es;
   inside = omega arith;
   last = refl;
+  fallen = refl;
   settled = refl;
   from = omega arith;
   empty = λ c p q. absurd (omega arith);
@@ -310,6 +312,24 @@ go-start f b w sl sh ls rs es = record {
 before-next : (f : ℕ → ℕ) (x : ℕ) → before f (x + 1) ≡ f x
 unfolding before
 before-next f x = rw add-one
+
+-- where the height does not fall, and where it does
+turns-not : (f : ℕ → ℕ) (x : ℕ) → before f x ≤ f x → turns f (x + 1) ≡ turns f x
+unfolding turns
+turns-not f x h = rw (add-one, le-ltb (f x) (before f x) h) (omega arith)
+
+turns-one : (f : ℕ → ℕ) (x : ℕ) → f x < before f x → turns f (x + 1) ≡ turns f x + 1
+unfolding turns
+turns-one f x h = rw (add-one, lt-ltb (f x) (before f x) h)
+
+-- over cells without a height it does not fall
+turns-still : (f : ℕ → ℕ) (x j : ℕ) → ((k : ℕ) → x ≤ k → k < x + 1 + j → f k ≡ 0) → turns f (x + 1 + j) ≡ turns f (x + 1)
+turns-still f x zero h = ap (turns f) (let q : x + 1 + 0 ≡ x + 1 = omega arith in q)
+turns-still f x (suc j) h =
+    let q : x + 1 + suc j ≡ x + j + 1 + 1 = omega arith in
+    let p : x + 1 + j ≡ x + j + 1 = omega arith in
+    let here : before f (x + j + 1) ≡ 0 = before-next f (x + j) ∙ h (x + j) (omega arith) (omega arith) in
+    ap (turns f) q ∙ turns-not f (x + j + 1) (omega (arith, here)) ∙ ap (turns f) (sym p) ∙ turns-still f x j (λ k a b. h k a (omega arith))
 
 pub before-low : (f : ℕ → ℕ) (n : ℕ) → ((k : ℕ) → f k ≤ n) → (x : ℕ) → before f x ≤ n
 unfolding before
@@ -330,37 +350,40 @@ open-here f lo zero z h o = omega arith
 open-here f lo (suc p) z h o = ⊎-elim (λ (l : lo < suc p). absurd (o p (omega arith) (omega arith) z)) (λ (l : suc p ≤ lo). omega arith) (cmp lo (suc p))
 
 module _ {f : ℕ → ℕ} {b : ℕ → Bool} (bare : (k : ℕ) → f k ≡ 0 → b k ≡ false)
-    {w : ℕ} {sl₀ sh₀ ls₀ rs₀ es₀ sl sh ls rs es : List ℕ} {n m e u lo x : ℕ} (i : Going f b w sl₀ sh₀ ls₀ rs₀ es₀ sl sh ls rs es n m e u lo x) where
+    {w : ℕ} {sl₀ sh₀ ls₀ rs₀ es₀ sl sh ls rs es : List ℕ} {n m k e u lo x : ℕ} (i : Going f b w sl₀ sh₀ ls₀ rs₀ es₀ sl sh ls rs es n m k e u lo x) where
   no-reach : f x ≡ 0 → reach b (x + 1) ≡ reach b x
   no-reach z = next-reach bare (i .walked) ∙ ap (λ t. cond t (x + 1) (reach b x)) (bare x z)
 
   module _ (h : x < w) where
-    pub go-stay : f x ≡ u → (f x ≡ 0 → ⊥) → Going f b w sl₀ sh₀ ls₀ rs₀ es₀ sl sh ls rs es n m e u lo (x + 1)
+    pub go-stay : f x ≡ u → (f x ≡ 0 → ⊥) → Going f b w sl₀ sh₀ ls₀ rs₀ es₀ sl sh ls rs es n m k e u lo (x + 1)
     go-stay q ne = record {
       walked = walk-stay bare (i .walked) (i .inside) (q ∙ i .last);
       inside = omega arith;
       last = sym q ∙ sym (before-next f x);
+      fallen = i .fallen ∙ sym (turns-not f x (omega (arith, i .last)));
       settled = i .settled;
       from = omega (arith, i .from);
       empty = open-more f lo x (i .empty) ne;
     }
 
     pub go-rise : (sl′ sh′ : List ℕ) (n′ v : ℕ) → v ≡ f x → u < v → length sl′ ≡ length sl → length sh′ ≡ length sh → stack sl′ sh′ n′ ≡ pushed (ltb 0 v) v x (stack sl sh n)
-        → Going f b w sl₀ sh₀ ls₀ rs₀ es₀ sl′ sh′ ls rs es n′ m e v lo (x + 1)
+        → Going f b w sl₀ sh₀ ls₀ rs₀ es₀ sl′ sh′ ls rs es n′ m k e v lo (x + 1)
     go-rise sl′ sh′ n′ v ev up q₁ q₂ q = record {
       walked = walk-rise bare (i .walked) (i .inside) sl′ sh′ n′ v ev (omega (arith, i .last)) q₁ q₂ q;
       inside = omega arith;
       last = ev ∙ sym (before-next f x);
+      fallen = i .fallen ∙ sym (turns-not f x (omega (arith, i .last)));
       settled = i .settled;
       from = omega (arith, i .from);
       empty = open-more f lo x (i .empty) (λ z. omega arith);
     }
 
-    pub go-skip : u ≡ 0 → (d : ℕ) → 1 ≤ d → x + d ≤ w → ((k : ℕ) → x ≤ k → k < x + d → f k ≡ 0) → Going f b w sl₀ sh₀ ls₀ rs₀ es₀ sl sh ls rs es n m e u (x + d) (x + d)
+    pub go-skip : u ≡ 0 → (d : ℕ) → 1 ≤ d → x + d ≤ w → ((k : ℕ) → x ≤ k → k < x + d → f k ≡ 0) → Going f b w sl₀ sh₀ ls₀ rs₀ es₀ sl sh ls rs es n m k e u (x + d) (x + d)
     go-skip z d one inside over = record {
       walked = subst (λ k. Walked f b w sl₀ sh₀ ls₀ rs₀ es₀ sl sh ls rs es n m k (x + d)) (jumped .support) jumped;
       inside = inside;
       last = z ∙ sym (ap (before f) q ∙ before-next f (x + (d - 1)) ∙ over (x + (d - 1)) (omega arith) (omega arith));
+      fallen = i .fallen ∙ sym (turns-not f x (omega arith)) ∙ sym (ap (turns f) q₁ ∙ turns-still f x (d - 1) (λ a p r. over a p (omega arith)));
       settled = i .settled ∙ ap (reach b) (open-here f lo x (sym (i .last) ∙ z) (i .from) (i .empty)) ∙ sym (no-reach first) ∙ jumped .support;
       from = le-refl (x + d);
       empty = open-none f (x + d);
@@ -372,30 +395,34 @@ module _ {f : ℕ → ℕ} {b : ℕ → Bool} (bare : (k : ℕ) → f k ≡ 0 �
         q : x + d ≡ x + (d - 1) + 1
         q = omega arith
 
+        q₁ : x + d ≡ x + 1 + (d - 1)
+        q₁ = omega arith
+
         jumped : Walked f b w sl₀ sh₀ ls₀ rs₀ es₀ sl sh ls rs es n m (reach b (x + 1)) (x + d)
         jumped = walk-jump f b bare (walk-stay bare (i .walked) (i .inside) (first ∙ sym z ∙ i .last)) d one (omega arith) over
 
-    pub go-fall : (v k r e′ lo′ : ℕ) (sl′ sh′ ls′ rs′ es′ : List ℕ) (n′ m′ : ℕ) → v ≡ f x → CutAt sh n v k → r ≡ x - 1
+    pub go-fall : (v j r e′ lo′ : ℕ) (sl′ sh′ ls′ rs′ es′ : List ℕ) (n′ m′ : ℕ) → v ≡ f x → v < u → CutAt sh n v j → r ≡ x - 1
         → length sl′ ≡ length sl → length sh′ ≡ length sh → length ls′ ≡ length ls → length rs′ ≡ length rs → length es′ ≡ length es → e′ ≡ reach b x
-        → rows ls′ rs′ es′ m′ ≡ rows ls rs es m ++ leaving v e′ r (span (stairAt sl sh) k (n - k))
+        → rows ls′ rs′ es′ m′ ≡ rows ls rs es m ++ leaving v e′ r (span (stairAt sl sh) j (n - j))
         → Rest ls rs es ls′ rs′ es′ m′
         → stack sl′ sh′ n′ ≡ pushed (ltb 0 v) v x (stack sl sh n)
         → lo′ ≡ cond (eqb v 0) (x + 1) x
-        → Going f b w sl₀ sh₀ ls₀ rs₀ es₀ sl′ sh′ ls′ rs′ es′ n′ m′ e′ v lo′ (x + 1)
-    go-fall v k r e′ lo′ sl′ sh′ ls′ rs′ es′ n′ m′ ev c er q₁ q₂ q₃ q₄ q₅ ee out kept′ in′ el = go (eqb v 0) refl
+        → Going f b w sl₀ sh₀ ls₀ rs₀ es₀ sl′ sh′ ls′ rs′ es′ n′ m′ (k + 1) e′ v lo′ (x + 1)
+    go-fall v j r e′ lo′ sl′ sh′ ls′ rs′ es′ n′ m′ ev down c er q₁ q₂ q₃ q₄ q₅ ee out kept′ in′ el = go (eqb v 0) refl
       where
         there : Walked f b w sl₀ sh₀ ls₀ rs₀ es₀ sl′ sh′ ls′ rs′ es′ n′ m′ (reach b (x + 1)) (x + 1)
         there =
-            walk-more (i .walked) (i .inside) v k r sl′ sh′ ls′ rs′ es′ n′ m′ (reach b (x + 1)) ev c er q₁ q₂ q₃ q₄ q₅
-            (out ∙ ap (λ a. rows ls rs es m ++ leaving v a r (span (stairAt sl sh) k (n - k))) ee) kept′ in′ (next-reach bare (i .walked))
+            walk-more (i .walked) (i .inside) v j r sl′ sh′ ls′ rs′ es′ n′ m′ (reach b (x + 1)) ev c er q₁ q₂ q₃ q₄ q₅
+            (out ∙ ap (λ a. rows ls rs es m ++ leaving v a r (span (stairAt sl sh) j (n - j))) ee) kept′ in′ (next-reach bare (i .walked))
 
-        go : (t : Bool) → eqb v 0 ≡ t → Going f b w sl₀ sh₀ ls₀ rs₀ es₀ sl′ sh′ ls′ rs′ es′ n′ m′ e′ v lo′ (x + 1)
+        go : (t : Bool) → eqb v 0 ≡ t → Going f b w sl₀ sh₀ ls₀ rs₀ es₀ sl′ sh′ ls′ rs′ es′ n′ m′ (k + 1) e′ v lo′ (x + 1)
         go true t =
             let l : lo′ ≡ x + 1 = el ∙ ap (λ a. cond a (x + 1) x) t in
             record {
               walked = there;
               inside = omega arith;
               last = ev ∙ sym (before-next f x);
+              fallen = ap (λ a. a + 1) (i .fallen) ∙ sym (turns-one f x (omega (arith, i .last)));
               settled = ee ∙ sym (no-reach (sym ev ∙ eqb-true v 0 t)) ∙ ap (reach b) (sym l);
               from = omega arith;
               empty = subst (λ a. Open f a (x + 1)) (sym l) (open-none f (x + 1));
@@ -406,6 +433,7 @@ module _ {f : ℕ → ℕ} {b : ℕ → Bool} (bare : (k : ℕ) → f k ≡ 0 �
               walked = there;
               inside = omega arith;
               last = ev ∙ sym (before-next f x);
+              fallen = ap (λ a. a + 1) (i .fallen) ∙ sym (turns-one f x (omega (arith, i .last)));
               settled = ee ∙ ap (reach b) (sym l);
               from = omega arith;
               empty = subst (λ a. Open f a (x + 1)) (sym l) (open-more f x x (open-none f x) (λ z. eqb-false v 0 t (ev ∙ z)));
@@ -415,11 +443,13 @@ module _ {f : ℕ → ℕ} {b : ℕ → Bool} (bare : (k : ℕ) → f k ≡ 0 �
   pub go-end : w ≤ x → f w ≡ 0 → (r e′ m′ : ℕ) (ls′ rs′ es′ : List ℕ) → r ≡ w - 1 → e′ ≡ reach b w
       → length ls′ ≡ length ls → length rs′ ≡ length rs → length es′ ≡ length es
       → rows ls′ rs′ es′ m′ ≡ rows ls rs es m ++ leaving 0 e′ r (span (stairAt sl sh) 0 (n - 0)) → Rest ls rs es ls′ rs′ es′ m′
-      → (rows ls′ rs′ es′ m′ ≡ rowEntries f b w) × Rest ls₀ rs₀ es₀ ls′ rs′ es′ m′
-  go-end h z r e′ m′ ls′ rs′ es′ er ee q₃ q₄ q₅ out kept′ =
+      → (l : ℕ) → l ≡ cond (ltb 0 u) 1 0
+      → (rows ls′ rs′ es′ m′ ≡ rowEntries f b w) × Rest ls₀ rs₀ es₀ ls′ rs′ es′ m′ × (k + l ≡ turns f (w + 1))
+  unfolding turns
+  go-end h z r e′ m′ ls′ rs′ es′ er ee q₃ q₄ q₅ out kept′ l el =
       let q : x ≡ w = omega (arith, i .inside) in
       let c = cut-none sh n 0 0 (omega arith) (λ l. omega arith) in
       let ends =
       walk-more (i .walked) (i .inside) 0 0 r sl sh ls′ rs′ es′ 0 m′ (reach b (x + 1)) (sym (ap f q ∙ z)) c (er ∙ ap (λ a. a - 1) (sym q)) refl refl q₃ q₄ q₅
       (out ∙ ap (λ a. rows ls rs es m ++ leaving 0 a r (span (stairAt sl sh) 0 (n - 0))) (ee ∙ ap (reach b) (sym q))) kept′ (push-none sl sh n 0 0 x c refl) (next-reach bare (i .walked)) in
-      (walk-end ends (omega arith), ends .rest)
+      (walk-end ends (omega arith), ends .rest, rw (el, i .fallen, i .last, q, add-one, z))

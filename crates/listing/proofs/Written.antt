@@ -2,7 +2,7 @@
 use mathlib.Core.Path.{_≡_, refl, sym, ap, ap₂, _∙_, subst}
 use mathlib.Core.Bool.{Bool}
 use mathlib.Core.List.{List, [], _∷_, _++_, append-nil, append-assoc, map, map-append}
-use Prim.Native.Nat.{ℕ, zero, suc, _+_, _-_, _*_, _/_, _≤_, _<_}
+use Prim.Native.Nat.{ℕ, zero, suc, _+_, _-_, _*_, _≤_, _<_}
 use native.Mathlib.Nat.{add-zero, mul-le-mul}
 use native.Mathlib.Numerals.{add-one}
 use native.Mathlib.Omega.{arith}
@@ -216,8 +216,8 @@ module _ (occ : ℕ → ℕ → Bool) (W H : ℕ) where
         ∙ ap (λ k. recordsOf occ W H H ++ drop k room₀) long ∙ ap (λ r. r ++ drop (8 * length (entries occ W H)) room₀) same
 
     -- eight bytes to an entry
-    pub wrote-count : (room : List ℕ) (y at : ℕ) → Wrote room₀ room y at → H ≤ y → at / 8 ≡ length (entries occ W H)
-    wrote-count room y at w h =
+    pub wrote-count : (room : List ℕ) (y n : ℕ) → Wrote room₀ room y (8 * n) → H ≤ y → n ≡ length (entries occ W H)
+    wrote-count room y n w h =
         let q : y ≡ H = omega (arith, w .upto) in
-        let n : at ≡ 8 * length (entries occ W H) = w .next ∙ ap (λ k. length (recordsOf occ W H k)) q ∙ all-there in
+        let e : 8 * n ≡ 8 * length (entries occ W H) = w .next ∙ ap (λ k. length (recordsOf occ W H k)) q ∙ all-there in
         omega arith

@@ -80,6 +80,11 @@ unfoldable pub reach : (ℕ → Bool) → ℕ → ℕ
 reach b zero = 0
 reach b (suc x) = cond (b x) (suc x) (reach b x)
 
+-- how many heights among the first x are smaller than the one before
+unfoldable pub turns : (ℕ → ℕ) → ℕ → ℕ
+turns f zero = 0
+turns f (suc x) = turns f x + cond (ltb (f x) (before f x)) 1 0
+
 -- WHAT THE CODE HOLDS: g i .. g (i + n - 1) as a list
 unfoldable pub span : {A : Type 0} → (ℕ → A) → ℕ → ℕ → List A
 span g i zero = []

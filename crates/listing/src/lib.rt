@@ -9,8 +9,14 @@ ghost use Rattle.rules.specs.Tests.{count};
 ghost use Rattle.rules.specs.Surface.{Standing, occupied, slots};
 ghost use Rattle.rules.specs.Empties.{scanned, corner, corners, entries, entryRecord, entryRecords};
 ghost use Rattle.rules.specs.Calls.{roomAfter};
-ghost use Rattle.listing.specs.Row.{entry, entryAt, stairAt, stack, rows, span, pushed, leaving, reach, Rises, CutAt, Rest, Open};
+ghost use Rattle.listing.specs.Row.{entry, entryAt, stairAt, stack, rows, span, pushed, leaving, reach, turns, Rises, CutAt, Rest, Open};
 ghost use Rattle.listing.specs.Listed.{heightOf, support, entryRect, entriesIn, rectsIn, Strides, Scans, Unmarked, Marks, written, Drawn, recordsIn, listedResult, listedRoom};
+
+// How many entries and how many corners.
+pub struct Counts {
+    pub entries: usize,
+    pub corners: usize,
+}
 
 // The height over column x of row y: the count of an empty cell, 0 for an occupied one.
 fn height_at(w: usize, h: usize, weights: &[i16], table: &[u8], y: usize, x: usize) -> u8
@@ -183,9 +189,16 @@ fn begins(v: u8, x: usize) -> usize
     if v == 0 { x + 1 } else { x }
 }
 
+// 1 where the height falls to 0 past the last column.
+fn past(u: usize) -> usize
+    ensures { λ r. ⌜ r ≡ cond (ltb 0 u) 1 0 ⌝ }
+{
+    if u == 0 { 0 } else { 1 }
+}
+
 // The walk. u is the height before x. Where the height stays, nothing happens; where it rises, a stair enters; where it falls, the stairs that are
 // higher leave, and the stair of its height enters. An occupied run after an occupied cell is skipped by its weight. Past the last column stands
-// 0: all leave. sl and sh hold the stairs; e is as far as there is support among the first lo columns, and from lo on all are empty.
+// 0: all leave. Each fall is a corner. sl and sh hold the stairs; e is as far as there is support among the first lo columns, and from lo on all are empty.
 fn walk(
     w: usize,
     h: usize,
@@ -197,15 +210,17 @@ fn walk(
     lefts: &mut [u8],
     rights: &mut [u8],
     heights: &mut [u8],
-) -> usize
+) -> Counts
     requires { ⌜ Standing w h (now weights) (now table) ⌝ }
     requires { ⌜ (y < h) × (w ≤ length (now sl)) × (w ≤ length (now sh)) ⌝ }
     requires { ⌜ (w ≤ length (now lefts)) × (w ≤ length (now rights)) × (w ≤ length (now heights)) ⌝ }
-    ensures { λ m. ⌜ rows (now (lefts .exit)) (now (rights .exit)) (now (heights .exit)) m ≡ entriesIn (occupied (now (table .entry))) w h y ⌝ }
-    ensures { λ m. ⌜ Rest (now (lefts .entry)) (now (rights .entry)) (now (heights .entry)) (now (lefts .exit)) (now (rights .exit)) (now (heights .exit)) m ⌝ }
+    ensures { λ r. ⌜ rows (now (lefts .exit)) (now (rights .exit)) (now (heights .exit)) (r .entries) ≡ entriesIn (occupied (now (table .entry))) w h y ⌝ }
+    ensures { λ r. ⌜ Rest (now (lefts .entry)) (now (rights .entry)) (now (heights .entry)) (now (lefts .exit)) (now (rights .exit)) (now (heights .exit)) (r .entries) ⌝ }
+    ensures { λ r. ⌜ r .corners ≡ turns (heightOf (occupied (now (table .entry))) w y) (w + 1) ⌝ }
 {
     let mut n = 0;
     let mut m = 0;
+    let mut falls = 0;
     let mut e = 0u8;
     let mut u = 0;
     let mut lo = 0;
@@ -230,15 +245,22 @@ fn walk(
             n = push(sl, sh, k, n, v, x as u8);
             u = v as usize;
             lo = begins(v, x);
+            falls += 1;
             x += 1;
         }
     }
     e = settle(w, h, weights, table, y, lo, w, e);
     let last = left_of(w);
-    emit(sl, sh, 0, n, 0, e, last, lefts, rights, heights, m)
+    let all = emit(sl, sh, 0, n, 0, e, last, lefts, rights, heights, m);
+    Counts {
+        entries: all,
+        corners: falls + past(u),
+    }
 }
 
-// The entries with their bottom row at y, in the order of the list: entry i is lefts[i], rights[i], heights[i]. The result is their number.
+// The entries with their bottom row at y, in the order of the list: entry i is lefts[i], rights[i], heights[i]; and how many corners the row has if it is
+// scanned. "A corner is an empty cell of a scanned row that stands in the last column or whose right neighbour has a smaller weight": exactly where
+// the height falls, 0 standing past the last column.
 pub fn row(
     w: usize,
     h: usize,
@@ -248,13 +270,13 @@ pub fn row(
     lefts: &mut [u8],
     rights: &mut [u8],
     heights: &mut [u8],
-) -> usize
+) -> Counts
     requires { ⌜ Standing w h (now weights) (now table) ⌝ }
     requires { ⌜ y < h ⌝ }
     requires { ⌜ (w ≤ length (now lefts)) × (w ≤ length (now rights)) × (w ≤ length (now heights)) ⌝ }
-    ensures { λ m. ⌜ rows (now (lefts .exit)) (now (rights .exit)) (now (heights .exit)) m ≡ entriesIn (occupied (now (table .entry))) w h y ⌝ }
-    ensures { λ m. ⌜ (m ≡ length (entriesIn (occupied (now (table .entry))) w h y)) × (m ≤ w) ⌝ }
-    ensures { λ m. ⌜ Rest (now (lefts .entry)) (now (rights .entry)) (now (heights .entry)) (now (lefts .exit)) (now (rights .exit)) (now (heights .exit)) m ⌝ }
+    ensures { λ r. ⌜ rows (now (lefts .exit)) (now (rights .exit)) (now (heights .exit)) (r .entries) ≡ entriesIn (occupied (now (table .entry))) w h y ⌝ }
+    ensures { λ r. ⌜ (r .entries ≡ length (entriesIn (occupied (now (table .entry))) w h y)) × (r .entries ≤ w) ⌝ }
+    ensures { λ r. ⌜ r .corners ≡ turns (heightOf (occupied (now (table .entry))) w y) (w + 1) ⌝ }
 {
     let mut sl = [0u8; 64];
     let mut sh = [0u8; 64];
@@ -270,52 +292,6 @@ pub fn row(
         rights,
         heights,
     )
-}
-
-// 1 where the height goes down from column x to the next.
-fn turn(w: usize, h: usize, weights: &[i16], table: &[u8], y: usize, x: usize) -> u8
-    requires { ⌜ Standing w h (now weights) (now table) ⌝ }
-    requires { ⌜ (y < h) × (x + 1 < w) ⌝ }
-    ensures { λ r. ⌜ r ≡ cond (ltb (heightOf (occupied (now (table .entry))) w y (x + 1)) (heightOf (occupied (now (table .entry))) w y x)) 1 0 ⌝ }
-{
-    let i = y * w + x;
-    if cells::is_lower(weights[i + 1], weights[i]) {
-        1
-    } else {
-        0
-    }
-}
-
-// 1 where the last column has a height.
-fn last_turn(w: usize, h: usize, weights: &[i16], table: &[u8], y: usize, x: usize) -> u8
-    requires { ⌜ Standing w h (now weights) (now table) ⌝ }
-    requires { ⌜ (y < h) × (x < w) ⌝ }
-    ensures { λ r. ⌜ r ≡ cond (ltb 0 (heightOf (occupied (now (table .entry))) w y x)) 1 0 ⌝ }
-{
-    if height_at(w, h, weights, table, y, x) == 0 {
-        0
-    } else {
-        1
-    }
-}
-
-// How many corners a scanned row has. "A corner is an empty cell of a scanned row that stands in the last column or whose right neighbour has
-// a smaller weight": exactly where the height goes down, 0 standing past the last column. It looks at all cells, so that the compiler takes many at
-// a time.
-pub fn row_corners(w: usize, h: usize, weights: &[i16], table: &[u8], y: usize) -> usize
-    requires { ⌜ Standing w h (now weights) (now table) ⌝ }
-    requires { ⌜ (y < h) × (scanned h (now table) y ≡ true) ⌝ }
-    ensures { λ r. ⌜ r ≡ count w (λ x. corner w h (now (table .entry)) x y) ⌝ }
-{
-    let last = w - 1;
-    let mut n = 0u8;
-    let mut c = 0;
-    while c < last {
-        n += turn(w, h, weights, table, y, c);
-        c += 1;
-    }
-    n += last_turn(w, h, weights, table, y, last);
-    n as usize
 }
 
 // No row is marked yet.
@@ -362,8 +338,8 @@ pub fn scanned_rows(h: usize, table: &[u8], scans: &mut [u8])
     scans[h - 1] = 1;
 }
 
-// The entries of row y as `row` gives them, and none where the row is not scanned: then it has none.
-pub fn entries_in(
+// The entries and corners of row y as `row` gives them, and none where the row is not scanned: then it has none.
+fn entries_in(
     w: usize,
     h: usize,
     weights: &[i16],
@@ -373,36 +349,21 @@ pub fn entries_in(
     lefts: &mut [u8],
     rights: &mut [u8],
     heights: &mut [u8],
-) -> usize
+) -> Counts
     requires { ⌜ Standing w h (now weights) (now table) ⌝ }
     requires { ⌜ (y < h) × Scans h (now table) (now scans) ⌝ }
     requires { ⌜ (w ≤ length (now lefts)) × (w ≤ length (now rights)) × (w ≤ length (now heights)) ⌝ }
-    ensures { λ m. ⌜ rows (now (lefts .exit)) (now (rights .exit)) (now (heights .exit)) m ≡ entriesIn (occupied (now (table .entry))) w h y ⌝ }
-    ensures { λ m. ⌜ (m ≡ length (rectsIn (occupied (now (table .entry))) w h y)) × (m ≤ w) ⌝ }
+    ensures { λ r. ⌜ rows (now (lefts .exit)) (now (rights .exit)) (now (heights .exit)) (r .entries) ≡ entriesIn (occupied (now (table .entry))) w h y ⌝ }
+    ensures { λ r. ⌜ (r .entries ≡ length (rectsIn (occupied (now (table .entry))) w h y)) × (r .entries ≤ w) ⌝ }
+    ensures { λ r. ⌜ (r .corners ≡ count w (λ x. corner w h (now (table .entry)) x y)) × (r .corners ≤ w) ⌝ }
 {
     if scans[y] == 0 {
-        return 0;
+        return Counts {
+            entries: 0,
+            corners: 0,
+        };
     }
     row(w, h, weights, table, y, lefts, rights, heights)
-}
-
-// How many corners row y has: none where it is not scanned.
-pub fn corners_in(
-    w: usize,
-    h: usize,
-    weights: &[i16],
-    table: &[u8],
-    scans: &[u8],
-    y: usize,
-) -> usize
-    requires { ⌜ Standing w h (now weights) (now table) ⌝ }
-    requires { ⌜ (y < h) × Scans h (now table) (now scans) ⌝ }
-    ensures { λ r. ⌜ (r ≡ count w (λ x. corner w h (now (table .entry)) x y)) × (r ≤ w) ⌝ }
-{
-    if scans[y] == 0 {
-        return 0;
-    }
-    row_corners(w, h, weights, table, y)
 }
 
 // An entry of row y as its record: "x, y, w, h, the area as two bytes, low first, and two zero bytes."
@@ -448,7 +409,7 @@ fn write_row(
     }
 }
 
-// The entries of row y as records from `at` on. The result is where the next row's begin.
+// The entries of row y as records from `at` on.
 fn write_in(
     w: usize,
     h: usize,
@@ -461,22 +422,18 @@ fn write_in(
     heights: &mut [u8],
     room: &mut [u8],
     at: usize,
-) -> usize
+) -> Counts
     requires { ⌜ Standing w h (now weights) (now table) ⌝ }
     requires { ⌜ (y < h) × Scans h (now table) (now scans) ⌝ }
     requires { ⌜ (w ≤ length (now lefts)) × (w ≤ length (now rights)) × (w ≤ length (now heights)) ⌝ }
     requires { ⌜ at + length (recordsIn (occupied (now table)) w h y) ≤ length (now room) ⌝ }
-    ensures { λ r. ⌜ (r ≡ at + length (recordsIn (occupied (now (table .entry))) w h y)) × (now (room .exit) ≡ written at (recordsIn (occupied (now (table .entry))) w h y) (now (room .entry))) ⌝ }
+    ensures { λ r. ⌜ (8 * r .entries ≡ length (recordsIn (occupied (now (table .entry))) w h y)) × (now (room .exit) ≡ written at (recordsIn (occupied (now (table .entry))) w h y) (now (room .entry))) ⌝ }
+    ensures { λ r. ⌜ (r .entries ≤ w) × (r .corners ≡ count w (λ x. corner w h (now (table .entry)) x y)) × (r .corners ≤ w) ⌝ }
 {
-    let n = entries_in(w, h, weights, table, scans, y, lefts, rights, heights);
+    let c = entries_in(w, h, weights, table, scans, y, lefts, rights, heights);
+    let n = c.entries;
     write_row(y, n, lefts, rights, heights, room, at);
-    at + 8 * n
-}
-
-// How many entries and how many corners.
-pub struct Counts {
-    pub entries: usize,
-    pub corners: usize,
+    c
 }
 
 // The whole list as records from the start of the room, the rows one behind the other. "later bytes stay."
@@ -498,11 +455,12 @@ pub fn write_list(
     ensures { λ _. ⌜ now (room .exit) ≡ roomAfter w h (now (table .entry)) (now (room .entry)) ⌝ }
     ensures { λ r. ⌜ (r .entries ≡ length (entries (occupied (now (table .entry))) w h)) × (r .corners ≡ corners w h (now (table .entry))) ⌝ }
 {
-    let mut at = 0;
-    let mut turns = 0;
+    let mut found = 0;
+    let mut turned = 0;
     let mut y = 0;
     while y < h {
-        at = write_in(
+        let at = 8 * found;
+        let c = write_in(
             w,
             h,
             weights,
@@ -515,12 +473,13 @@ pub fn write_list(
             room,
             at,
         );
-        turns += corners_in(w, h, weights, table, scans, y);
+        found += c.entries;
+        turned += c.corners;
         y += 1;
     }
     Counts {
-        entries: at / 8,
-        corners: turns,
+        entries: found,
+        corners: turned,
     }
 }
 
@@ -543,7 +502,8 @@ pub fn count_list(
     let mut found = 0;
     let mut y = 0;
     while y < h {
-        found += entries_in(w, h, weights, table, scans, y, lefts, rights, heights);
+        let c = entries_in(w, h, weights, table, scans, y, lefts, rights, heights);
+        found += c.entries;
         y += 1;
     }
     found

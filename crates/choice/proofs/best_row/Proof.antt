@@ -65,7 +65,7 @@ returns-3 c =
     let r = rowed (c .before) in
     let a = start r .args in
     let l = r .row .last .1 .1 .1 .1 .1 in
-    row-best (a .w) (a .h) (a .rule) (a .mw) (a .mh) (occupied (a .table .now)) (a .y) (a .b) _ (rows (l .0) (l .1 .0) (l .1 .1 .0) (r .row .result)) (r .row .ensures .0) (c .best-in .ensures)
+    row-best (a .w) (a .h) (a .rule) (a .mw) (a .mh) (occupied (a .table .now)) (a .y) (a .b) _ (rows (l .0) (l .1 .0) (l .1 .1 .0) (r .row .result .entries)) (r .row .ensures .0) (c .best-in .ensures)
 
 pub best-row-spec : {M : Type 1} → statement M
 best-row-spec =

@@ -20,8 +20,8 @@ start c = c .before .before .before .before .before .before
 abbrev entered : tie.After-entries-in-arg3 Inv-loop μ-loop → tie.In-loop Inv-loop μ-loop
 entered c = c .before .before .before
 
-abbrev listed : tie.After-slice-known6 Inv-loop μ-loop → tie.After-entries-in Inv-loop μ-loop
-listed c = c .before .before .before .before .before .before
+abbrev listed : tie.After-struct-known Inv-loop μ-loop → tie.After-entries-in Inv-loop μ-loop
+listed c = c .before .before .before .before .before .before .before
 
 loop-holds : tie.Need-loop-holds Inv-loop μ-loop
 loop-holds c = (refl, refl, refl, found-none _ _ _)
@@ -38,7 +38,7 @@ add-found c =
     let e = listed c in
     let t = entered (e .before) in
     let p = start (t .before) .pre .0 in
-    omega (arith, e .entries-in .ensures .1 .1, t .before .loop .inv .3 .few, t .loop-test .taken, p .widest, p .highest)
+    omega (arith, e .entries-in .ensures .1 .0 .1, t .before .loop .inv .3 .few, t .loop-test .taken, p .widest, p .highest)
 
 add-y : tie.Need-add-y Inv-loop μ-loop
 add-y c = omega (arith, entered (listed c .before) .loop-test .taken)
@@ -52,7 +52,7 @@ loop-again c =
     let t = entered (e .before) in
     let i = t .before .loop .inv in
     let k = e .entries-in .kept .1 .1 .1 .1 .1 .1 in
-    let n = e .entries-in .ensures .1 in
+    let n = e .entries-in .ensures .1 .0 in
     (k .0 ∙ i .0, k .1 .0 ∙ i .1, k .1 .1 .0 ∙ i .2, found-more _ _ _ _ _ _ (i .3) (start (t .before) .pre .0 .widest) (t .loop-test .taken) (n .0) (n .1))
 
 same-length : tie.Need-same-length Inv-loop μ-loop

@@ -5,10 +5,12 @@ use native.Mathlib.Omega.{arith}
 use borrow.Author.Needs.{needs}
 use lib.ListN.{length}
 use Rattle.rules.specs.Surface.{occupied}
+use Rattle.rules.specs.Empties.{corner}
 use Rattle.listing.specs.Row.{span}
 use Rattle.listing.specs.Listed.{entriesIn}
 use Rattle.listing.proofs.List.{unscanned, rects-length}
-use Rattle.listing.proofs.Scanned.{scan-no}
+use Rattle.listing.proofs.Scanned.{scan-no, scan-yes}
+use Rattle.listing.proofs.Corners.{no-corner, count-le, turns-corners}
 use Rattle.listing.proofs.entries_in.Statement.{statement}
 use Rattle.listing.proofs.entries_in.Tie as tie
 
@@ -21,9 +23,10 @@ returns c =
     let s = c .before .before .before .before .before .before .before in
     let p = s .pre in
     let a = s .args in
+    let bare = scan-no (p .1 .0 .1) _ (p .1 .0 .0) (c .if1 .taken) in
     let none : entriesIn (occupied (a .table .now)) (a .w) (a .h) (a .y) ≡ [] =
-    unscanned (a .table .now) (a .w) (a .h) (a .y) (p .1 .0 .0) (scan-no (p .1 .0 .1) _ (p .1 .0 .0) (c .if1 .taken)) in
-    (sym none, (sym (rects-length (occupied (a .table .now)) (a .w) (a .h) (a .y) ∙ ap length none), omega arith))
+    unscanned (a .table .now) (a .w) (a .h) (a .y) (p .1 .0 .0) bare in
+    (sym none, ((sym (rects-length (occupied (a .table .now)) (a .w) (a .h) (a .y) ∙ ap length none), omega arith), (sym (no-corner _ _ _ _ bare), omega arith)))
 
 row-requires : tie.Need-row-requires
 row-requires c κs =
@@ -42,7 +45,10 @@ same-length-3 c = search needs
 returns-2 : tie.Need-returns-2
 returns-2 c =
     let r = c .before .before .before .before .before .before .row in
-    (r .ensures .0, (r .ensures .1 .0 .0 ∙ sym (rects-length _ _ _ _), r .ensures .1 .0 .1))
+    let s = c .before .before .before .before .before .before .before .before .before .before .before .before .before .before .before .before .before in
+    let a = s .args in
+    let n = turns-corners (a .w) (a .h) (a .table .now) (a .y) _ (scan-yes (s .pre .1 .0 .1) _ (s .pre .1 .0 .0) (c .before .before .before .before .before .before .before .before .before .before .if1 .left)) (r .ensures .1 .1) in
+    (r .ensures .0, ((r .ensures .1 .0 .0 ∙ sym (rects-length _ _ _ _), r .ensures .1 .0 .1), (n, omega (arith, n, count-le (a .w) (λ x. corner (a .w) (a .h) (a .table .now) x (a .y))))))
 
 pub entries-in-spec : {M : Type 1} → statement M
 entries-in-spec =

@@ -30,7 +30,7 @@ returns c =
     let called = c .before .before .before .before .before .before .before .before .walk in
     let left = called .last .1 .1 .1 .1 .1 .1 .1 in
     let wrote = called .ensures .0 in
-    (wrote, ((written-length _ (left .0) (left .1 .0) (left .1 .1 .0) _ wrote, row-few _ _ _ _ (left .0) (left .1 .0) (left .1 .1 .0) _ wrote), called .ensures .1))
+    (wrote, ((written-length _ (left .0) (left .1 .0) (left .1 .1 .0) _ wrote, row-few _ _ _ _ (left .0) (left .1 .0) (left .1 .1 .0) _ wrote), called .ensures .1 .1))
 
 pub row-spec : {M : Type 1} → statement M
 row-spec =

@@ -1,25 +1,30 @@
 -- `listing::walk` meets its contract. Assumes nothing.
 use mathlib.Core.Path.{_≡_, sym, _∙_, subst}
 use mathlib.Core.Bool.{Bool, false, not}
+use mathlib.Core.Logic.{⊎-elim}
 use Prim.Native.Nat.{ℕ, _+_, _-_, _≤_, _<_}
-use native.Mathlib.Nat.{le-refl}
+use native.Mathlib.Nat.{le-refl, eq-or-lt-of-le}
 use native.Mathlib.Omega.{arith}
+use borrow.Author.Needs.{needs}
+use lib.Dec.{ltb}
 use borrow.Author.Tests.{ltb-true, ltb-false, eqb-true, not-true}
 use Rattle.rules.specs.Surface.{occupied}
 use Rattle.rules.proofs.Tests.{and-left, and-right}
 use Rattle.listing.specs.Row.{Open}
 use Rattle.listing.specs.Listed.{heightOf, support, entriesIn}
-use Rattle.listing.proofs.Cells.{height-past, height-taken, height-low, unheld, open-high, none-taken}
+use Rattle.listing.proofs.Cells.{height-past, height-taken, height-low, unheld, open-high, none-taken, stays-not}
+use Rattle.listing.proofs.Corners.{turns-le, one-or-none}
 use Rattle.listing.proofs.Walks.{Going, rise, fits-sl, fits-sh, fits-out, enters, cut-above, before-low, go-start, go-stay, go-rise, go-skip, go-fall, go-end}
 use Rattle.listing.proofs.walk.Statement.{statement}
 use Rattle.listing.proofs.walk.Tie as tie
 
 abbrev Inv-loop : tie.InvT-loop
-Inv-loop w h weights table y sl₀ sh₀ lefts₀ rights₀ heights₀ n₀ m₀ e₀ u₀ lo₀ x₀ sl sh lefts rights heights n m e u lo x =
-    Going (heightOf (occupied table) w y) (support (occupied table) w h y) w sl₀ sh₀ lefts₀ rights₀ heights₀ sl sh lefts rights heights n m e u lo x
+Inv-loop w h weights table y sl₀ sh₀ lefts₀ rights₀ heights₀ n₀ m₀ falls₀ e₀ u₀ lo₀ x₀ sl sh lefts rights heights n m falls e u lo x =
+    Going (heightOf (occupied table) w y) (support (occupied table) w h y) w sl₀ sh₀ lefts₀ rights₀ heights₀ sl sh lefts rights heights n m falls e u lo x
 
 abbrev μ-loop : tie.MeasureT-loop
-μ-loop w h weights table y sl₀ sh₀ lefts₀ rights₀ heights₀ n₀ m₀ e₀ u₀ lo₀ x₀ sl sh lefts rights heights n m e u lo x = w - x
+μ-loop w h weights table y sl₀ sh₀ lefts₀ rights₀ heights₀ n₀ m₀ falls₀ e₀ u₀ lo₀ x₀ sl sh lefts rights heights n m falls e u lo x =
+    w - x
 
 -- from the place at which a turn starts back to the start
 abbrev start : tie.At-loop Inv-loop μ-loop → tie.Start Inv-loop μ-loop
@@ -180,6 +185,27 @@ cast-u-2 c = let l = c .before .before .before .before .before .before .before .
 begins-requires : tie.Need-begins-requires Inv-loop μ-loop
 begins-requires c κs = narrow (c .before .before .before .before .before .before .before .before .before .before .before .before .before .before .before .before .before .before .before .before .before .before .before .before .before .before .before .before .before)
 
+-- at most one fall for each column seen
+few : (c : tie.At-loop Inv-loop μ-loop) → c .loop .falls ≤ c .loop .x
+few c = omega (arith, c .loop .inv .fallen, turns-le (f (start c)) (c .loop .x))
+
+add-falls : tie.Need-add-falls Inv-loop μ-loop
+add-falls c = omega (arith, few (c .before .before .before .before .before .before .before .before .before .before .before .before .before .before .before .before .before .before .before .before .before .before .before .before .before .before .before .before .before .before .before), narrow (c .before .before .before .before .before .before .before .before .before .before .before .before .before .before .before .before .before .before .before .before .before .before .before .before .before .before .before .before .before .before))
+
+-- below the height before
+down : (c : tie.After-height-at2 Inv-loop μ-loop) → let l = c .before .before .before .before .before .before .before in c .height-at2 .result < l .loop .u
+down c =
+    let l = c .before .before .before .before .before .before .before in
+    let s = start l in
+    let x = l .loop .x in
+    let le = ltb-false (l .loop .u) (f s x) (sym (c .before .before .before .rises .ensures) ∙ c .before .before .if2 .left) in
+    ⊎-elim
+    (λ (q : f s x ≡ l .loop .u).
+    let taken = stays-not (occupied (s .args .table .now) x (s .args .y)) (f s x) (l .loop .u) (sym (c .before .before .before .before .before .stays .ensures) ∙ c .before .before .before .before .if1 .left) q in
+    absurd (c .before .if3 .left (sym q ∙ height-taken (occupied (s .args .table .now)) (s .args .w) (s .args .y) x taken)))
+    (λ (q : f s x < l .loop .u). omega (arith, c .height-at2 .ensures))
+    (eq-or-lt-of-le le)
+
 add-x-4 : tie.Need-add-x-4 Inv-loop μ-loop
 add-x-4 c = omega (arith, narrow (c .before .before .before .before .before .before .before .before .before .before .before .before .before .before .before .before .before .before .before .before .before .before .before .before .before .before .before .before .before .before))
 
@@ -192,7 +218,7 @@ loop-again-4 c =
     let emitted = c .before .before .before .before .before .before .before .before .before .before .before .before .before .before in
     let pk = c .before .before .before .before .before .push2 .kept in
     let ek = emitted .emit .kept in
-    go-fall (bare (start l)) (l .loop .inv) (on (c .before .before .before .before .before .before .before .before .before .before .before .before .before .before .before .before .before .before .before .before .before .before .before .before .before .before .before .before .before .before)) _ _ _ _ _ _ _ _ _ _ _ _ (c .before .before .before .before .before .before .before .before .before .before .before .before .before .before .before .before .before .before .before .before .before .before .before .before .height-at2 .ensures) (c .before .before .before .before .before .before .before .before .before .before .before .before .before .before .before .before .before .before .before .before .before .cut .ensures) (c .before .before .before .before .before .before .before .before .before .before .before .before .before .before .before .before .before .before .before .before .left-of .ensures)
+    go-fall (bare (start l)) (l .loop .inv) (on (c .before .before .before .before .before .before .before .before .before .before .before .before .before .before .before .before .before .before .before .before .before .before .before .before .before .before .before .before .before .before)) _ _ _ _ _ _ _ _ _ _ _ _ (c .before .before .before .before .before .before .before .before .before .before .before .before .before .before .before .before .before .before .before .before .before .before .before .before .height-at2 .ensures) (down (c .before .before .before .before .before .before .before .before .before .before .before .before .before .before .before .before .before .before .before .before .before .before .before .before)) (c .before .before .before .before .before .before .before .before .before .before .before .before .before .before .before .before .before .before .before .before .before .cut .ensures) (c .before .before .before .before .before .before .before .before .before .before .before .before .before .before .before .before .before .before .before .before .left-of .ensures)
     (pk .0) (pk .1 .0) (ek .1 .1 .1 .1 .1 .1 .1 .0) (ek .1 .1 .1 .1 .1 .1 .1 .1 .0) (ek .1 .1 .1 .1 .1 .1 .1 .1 .1 .0) (c .before .before .before .before .before .before .before .before .before .before .before .before .before .before .before .before .before .before .before .before .before .before .before .settle .ensures)
     (emitted .emit .ensures .0) (emitted .emit .ensures .1) (c .before .before .before .before .before .push2 .ensures) (c .begins .ensures)
 
@@ -217,28 +243,38 @@ emit-requires-2 c κs =
     let a = start l .pre .1 .0 in
     ((omega arith, fits-sl (i .walked) (i .inside) (a .1), fits-sh (i .walked) (i .inside) (a .2)), fits-out (i .walked) (i .inside) 0 (start l .pre .1 .1))
 
+past-requires : tie.Need-past-requires Inv-loop μ-loop
+past-requires c κs = search needs
+
+add-t62 : tie.Need-add-t62 Inv-loop μ-loop
+add-t62 c =
+    let l = c .before .before .before .before .before .before .before .before .before .before .before .before .before .before .before .before in
+    omega (arith, few l, l .loop .inv .inside, start l .pre .0 .widest, c .past .ensures, one-or-none (ltb 0 (l .loop .u)))
+
 same-length : tie.Need-same-length Inv-loop μ-loop
-same-length c = c .before .before .before .before .before .before .before .before .before .before .before .before .before .before .before .loop .inv .walked .long-sl
+same-length c = c .before .before .before .before .before .before .before .before .before .before .before .before .before .before .before .before .loop .inv .walked .long-sl
 
 same-length-2 : tie.Need-same-length-2 Inv-loop μ-loop
-same-length-2 c = c .before .before .before .before .before .before .before .before .before .before .before .before .before .before .before .loop .inv .walked .long-sh
+same-length-2 c = c .before .before .before .before .before .before .before .before .before .before .before .before .before .before .before .before .loop .inv .walked .long-sh
 
 same-length-3 : tie.Need-same-length-3 Inv-loop μ-loop
-same-length-3 c = c .before .before .before .before .before .before .emit2 .kept .1 .1 .1 .1 .1 .1 .1 .0 ∙ c .before .before .before .before .before .before .before .before .before .before .before .before .before .before .before .loop .inv .walked .long-l
+same-length-3 c = c .before .before .before .before .before .before .before .emit2 .kept .1 .1 .1 .1 .1 .1 .1 .0 ∙ c .before .before .before .before .before .before .before .before .before .before .before .before .before .before .before .before .loop .inv .walked .long-l
 
 same-length-4 : tie.Need-same-length-4 Inv-loop μ-loop
-same-length-4 c = c .before .before .before .before .before .before .emit2 .kept .1 .1 .1 .1 .1 .1 .1 .1 .0 ∙ c .before .before .before .before .before .before .before .before .before .before .before .before .before .before .before .loop .inv .walked .long-r
+same-length-4 c = c .before .before .before .before .before .before .before .emit2 .kept .1 .1 .1 .1 .1 .1 .1 .1 .0 ∙ c .before .before .before .before .before .before .before .before .before .before .before .before .before .before .before .before .loop .inv .walked .long-r
 
 same-length-5 : tie.Need-same-length-5 Inv-loop μ-loop
-same-length-5 c = c .before .before .before .before .before .before .emit2 .kept .1 .1 .1 .1 .1 .1 .1 .1 .1 .0 ∙ c .before .before .before .before .before .before .before .before .before .before .before .before .before .before .before .loop .inv .walked .long-h
+same-length-5 c = c .before .before .before .before .before .before .before .emit2 .kept .1 .1 .1 .1 .1 .1 .1 .1 .1 .0 ∙ c .before .before .before .before .before .before .before .before .before .before .before .before .before .before .before .before .loop .inv .walked .long-h
 
 returns : tie.Need-returns Inv-loop μ-loop
 unfolding entriesIn
 returns c =
-    let l = c .before .before .before .before .before .before .before .before .before .before .before .before .before .before .before in
-    let ek = c .before .before .before .before .before .before .emit2 .kept in
-    go-end (bare (start l)) (l .loop .inv) (c .before .before .before .before .before .before .before .before .before .before .before .before .before .before .loop-test .left) (height-past _ _ _ _ (le-refl _)) _ _ _ _ _ _ (c .before .before .before .before .before .before .before .before .before .before .before .before .left-of2 .ensures) (c .before .before .before .before .before .before .before .before .before .before .before .before .before .settle2 .ensures)
-    (ek .1 .1 .1 .1 .1 .1 .1 .0) (ek .1 .1 .1 .1 .1 .1 .1 .1 .0) (ek .1 .1 .1 .1 .1 .1 .1 .1 .1 .0) (c .before .before .before .before .before .before .emit2 .ensures .0) (c .before .before .before .before .before .before .emit2 .ensures .1)
+    let l = c .before .before .before .before .before .before .before .before .before .before .before .before .before .before .before .before in
+    let ek = c .before .before .before .before .before .before .before .emit2 .kept in
+    let z =
+    go-end (bare (start l)) (l .loop .inv) (c .before .before .before .before .before .before .before .before .before .before .before .before .before .before .before .loop-test .left) (height-past _ _ _ _ (le-refl _)) _ _ _ _ _ _ (c .before .before .before .before .before .before .before .before .before .before .before .before .before .left-of2 .ensures) (c .before .before .before .before .before .before .before .before .before .before .before .before .before .before .settle2 .ensures)
+    (ek .1 .1 .1 .1 .1 .1 .1 .0) (ek .1 .1 .1 .1 .1 .1 .1 .1 .0) (ek .1 .1 .1 .1 .1 .1 .1 .1 .1 .0) (c .before .before .before .before .before .before .before .emit2 .ensures .0) (c .before .before .before .before .before .before .before .emit2 .ensures .1) _ (c .past .ensures) in
+    (z .0, (z .1, z .2))
 
 pub walk-spec : {M : Type 1} → statement M
 walk-spec =
@@ -272,12 +308,15 @@ walk-spec =
     push-requires-2
     cast-u-2
     begins-requires
+    add-falls
     add-x-4
     loop-less-4
     loop-again-4
     settle-requires-2
     left-of-requires-2
     emit-requires-2
+    past-requires
+    add-t62
     same-length
     same-length-2
     same-length-3

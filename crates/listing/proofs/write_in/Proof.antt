@@ -18,10 +18,10 @@ abbrev entered : tie.After-write-row-arg4 → tie.After-entries-in
 entered c = c .before .before .before .before .before .before .before .before .before .before
 
 -- eight bytes for each entry
-bytes : (c : tie.After-entries-in) → let a = start c .args in 8 * c .entries-in .result ≡ length (recordsIn (occupied (a .table .now)) (a .w) (a .h) (a .y))
+bytes : (c : tie.After-entries-in) → let a = start c .args in 8 * c .entries-in .result .entries ≡ length (recordsIn (occupied (a .table .now)) (a .w) (a .h) (a .y))
 bytes c =
     let a = start c .args in
-    omega (arith, c .entries-in .ensures .1 .0, records-length (rectsIn (occupied (a .table .now)) (a .w) (a .h) (a .y)))
+    omega (arith, c .entries-in .ensures .1 .0 .0, records-length (rectsIn (occupied (a .table .now)) (a .w) (a .h) (a .y)))
 
 entries-in-requires : tie.Need-entries-in-requires
 entries-in-requires c κs = search needs
@@ -32,16 +32,10 @@ write-row-requires c κs =
     let p = start e .pre in
     let l = e .entries-in .last .1 .1 .1 .1 .1 .1 in
     let k = e .entries-in .kept .1 .1 .1 .1 .1 .1 in
-    let m = e .entries-in .ensures .1 .1 in (
+    let m = e .entries-in .ensures .1 .0 .1 in (
       (omega (arith, m, k .0, p .1 .1 .0 .0), omega (arith, m, k .1 .0, p .1 .1 .0 .1), omega (arith, m, k .1 .1 .0, p .1 .1 .0 .2)),
       (held-drawn _ _ _ _ (l .0) (l .1 .0) (l .1 .1 .0) _ (p .1 .0 .0) (p .0 .widest) (p .0 .highest) (e .entries-in .ensures .0), omega (arith, bytes e, p .1 .1 .1)),
     )
-
-mul-result : tie.Need-mul-result
-mul-result c = let e = entered (c .before .before .before) in omega (arith, e .entries-in .ensures .1 .1, start e .pre .0 .widest)
-
-add-result : tie.Need-add-result
-add-result c = let e = entered (c .before .before .before) in omega (arith, bytes e, start e .pre .1 .1 .1, start e .good)
 
 same-length : tie.Need-same-length
 same-length c = search needs
@@ -61,8 +55,8 @@ returns c =
     let e = entered (r .before) in
     let a = start e .args in
     let l = e .entries-in .last .1 .1 .1 .1 .1 .1 in
-    let b = bytes e in
-    (ap (λ n. a .at + n) b, r .write-row .ensures ∙ ap (λ t. written (a .at) t (a .room .now)) (rows-records (occupied (a .table .now)) (a .w) (a .h) (a .y) (l .0) (l .1 .0) (l .1 .1 .0) _ (e .entries-in .ensures .0)))
+    let n = e .entries-in .ensures .1 in
+    ((bytes e, r .write-row .ensures ∙ ap (λ t. written (a .at) t (a .room .now)) (rows-records (occupied (a .table .now)) (a .w) (a .h) (a .y) (l .0) (l .1 .0) (l .1 .1 .0) _ (e .entries-in .ensures .0))), (n .0 .1, n .1 .0, n .1 .1))
 
 pub write-in-spec : {M : Type 1} → statement M
 write-in-spec =
@@ -70,8 +64,6 @@ write-in-spec =
     (tie.spec
     entries-in-requires
     write-row-requires
-    mul-result
-    add-result
     same-length
     same-length-2
     same-length-3
