@@ -1,19 +1,20 @@
 -- THE REQUESTS OF A BLOCK THAT IS NOT REFUSED, each with its answer in the host's bytes. Assumes nothing.
-use mathlib.Core.Path.{_≡_, refl, sym, ap, _∙_}
+use mathlib.Core.Path.{_≡_, refl, sym, ap, _∙_, subst₂}
 use mathlib.Core.Bool.{Bool, true, false, not, cond, _&&_}
 use mathlib.Core.Logic.{_↔_}
 use mathlib.Core.List.{List}
 use mathlib.Core.Option.{some}
-use Prim.Native.Nat.{ℕ, suc, _≤_, _<_}
+use Prim.Native.Nat.{ℕ, suc, _+_, _*_, _≤_, _<_}
 use native.Mathlib.Omega.{arith}
 use borrow.Author.Tests.{not-false}
 use lib.Dec.{eqb}
-use lib.ListN.{length}
+use lib.ListN.{length, getD, drop}
+use lib.Seq.{getD-take, getD-drop}
 use Rattle.rules.specs.Judging.{first}
-use Rattle.rules.specs.Surface.{Standing, rect, covers, rectOf, stands, occupied}
+use Rattle.rules.specs.Surface.{Standing, rect, covers, rectOf, recordOf, freeRecord, withRecord, stands, occupied}
 use Rattle.rules.specs.Empties.{Empty}
-use Rattle.rules.specs.Requests.{idAsked, ruleOf, wide, high, byRule, isPin, isRemove, isExchange, idPlaced, slotOf, judging, pinned, ground, rulePlace, stepOf, codeOf, valuesOf, answerOf}
-use Rattle.rules.specs.Blocks.{State, started, requests, request, after}
+use Rattle.rules.specs.Requests.{idLow, idHigh, idAsked, ruleOf, wide, high, byRule, isPin, isRemove, isExchange, makesNew, idPlaced, slotOf, lowestFree, judging, pinned, ground, rulePlace, stepOf, codeOf, valuesOf, answerOf}
+use Rattle.rules.specs.Blocks.{State, started, next, requests, request, after}
 use Rattle.rules.specs.Calls.{badSize, badTable, badBlock, badAnswers, sizeLines, runLines, runCode, runWith}
 use Rattle.rules.specs.Host.{badBytes, weightsOf, bytesOf, hostRun}
 use Rattle.rules.specs.declared.Step.{Step}
@@ -27,11 +28,13 @@ use Rattle.demands.specs.Sessions.{codeOfResult, countOfResult}
 use Rattle.demands.proofs.Kept.{host-run-code, host-run-count}
 use Rattle.demands.proofs.Runs.{run-left}
 use Rattle.demands.proofs.Modules.{answers-at}
+use Rattle.demands.proofs.HostRuns.{standing-round}
 use Rattle.demands.proofs.Demands as D
 use Rattle.calls.specs.Promise.{Lent, HostRanBy}
 use Rattle.calls.proofs.Laws.{lent-standing}
-use Rattle.assured.specs.Chain.{upTo, OneFramed}
+use Rattle.assured.specs.Chain.{upTo, OneFramed, LowestFree, SlotOfId}
 use Rattle.assured.proofs.Lists.{none-of}
+use Rattle.assured.proofs.Slots.{new-record, exchanged-record, freed-record}
 
 -- an accepted step's slot
 record Accepted (d : Step) : Type 0 where
@@ -41,6 +44,10 @@ record Accepted (d : Step) : Type 0 where
 accepted : (d : Step) → ((c : ℕ) → d ≡ Refused c → 11 ≤ c) → codeOf d ≡ 0 → Accepted d
 accepted (Refused c) h e = absurd (omega (arith, h c refl, e))
 accepted (Done i r) h e = record { slot = i; step = refl }
+
+-- the code in answer k is byte 8·k of the answers
+pub code-byte : (a : List ℕ) (k : ℕ) → codeIn (request a k) ≡ getD a (8 * k) 0
+code-byte a k = let e : 8 * k + 0 ≡ 8 * k = omega arith in getD-take 8 (drop (8 * k) a) 0 0 (omega arith) ∙ getD-drop (8 * k) a 0 0 ∙ ap (λ n. getD a n 0) e
 
 module _ (W H : ℕ) (w t q room : List ℕ) {r : ℕ} {w′ t′ a′ : List ℕ} (p : HostRanBy W H w t q room r w′ t′ a′) (e : codeOfResult r ≡ 0) where
   abbrev bad : Bool
@@ -82,6 +89,14 @@ module _ (W H : ℕ) (w t q room : List ℕ) {r : ℕ} {w′ t′ a′ : List �
     ap countOfResult (p .result) ∙ host-run-count W H w t q room ∙ ap (λ (s : State). s .accepted) ran,
   )
 
+  -- AND IT STANDS, read back from its bytes
+  pub leaves-standing : Standing W H (weightsOf w′) t′
+  leaves-standing =
+      let end = upTo W H w t q (requests q) in
+      let d : Standing W H (end .weights) (end .table) = D.block-stands W H q (started (weightsOf w) t) run-stands (requests q) in
+      let back : weightsOf w′ ≡ end .weights = ap weightsOf (run-leaves .0) ∙ standing-round W H (end .weights) (end .table) d in
+      subst₂ (Standing W H) (sym back) (sym (run-leaves .1)) d
+
   module _ (k : ℕ) (l : k < requests q) where
     abbrev table : List ℕ
     table = upTo W H w t q k .table
@@ -101,6 +116,9 @@ module _ (W H : ℕ) (w t q room : List ℕ) {r : ℕ} {w′ t′ a′ : List �
 
     pub answer-lowest : Lowest (judging W H table asked) (codeIn (request a′ k))
     answer-lowest = rw code-is (D.request-code-lowest W H table asked)
+
+    pub answer-never-22 : getD a′ (8 * k) 0 ≡ 22 → ⊥
+    answer-never-22 z = D.never-22 W H table asked (sym code-is ∙ code-byte a′ k ∙ z)
 
     pub answer-ground : Sound table asked → isExchange asked ≡ true → (x y : ℕ) → occupied (ground table asked) x y ≡ (occupied table x y && not (covers (rectOf table (slotOf table (idAsked asked))) x y))
     answer-ground = D.judged-without-the-old W H (upTo W H w t q k .weights) table asked before-stands
@@ -145,6 +163,24 @@ module _ (W H : ℕ) (w t q room : List ℕ) {r : ℕ} {w′ t′ a′ : List �
       pub answer-gone : isRemove asked ≡ true → HasModule table (moduleAt (idAsked asked) (placeIn (request a′ k))) × (idPlaced (upTo W H w t q (suc k) .table) (idAsked asked) ≡ false)
       unfolding after
       answer-gone = D.removed-gone W H asked (upTo W H w t q k) before-stands (accepted-at .slot) (placeIn (request a′ k)) (accepted-at .step)
+
+      -- its record stands in the lowest free slot, or in its own
+      pub answer-new-slot : makesNew asked ≡ true →
+          LowestFree table (lowestFree table) × (upTo W H w t q (suc k) .table ≡ withRecord table (lowestFree table) (recordOf (idLow asked) (idHigh asked) (placeIn (request a′ k))))
+      unfolding after next
+      answer-new-slot = new-record W H (upTo W H w t q k .weights) table asked before-stands (accepted-at .slot) (placeIn (request a′ k)) (accepted-at .step)
+
+      pub answer-exchange-slot : isExchange asked ≡ true →
+          let i = slotOf table (idAsked asked) in
+          SlotOfId table i (idAsked asked) × (upTo W H w t q (suc k) .table ≡ withRecord table i (recordOf (idLow asked) (idHigh asked) (placeIn (request a′ k))))
+      unfolding after next
+      answer-exchange-slot = exchanged-record W H (upTo W H w t q k .weights) table asked before-stands (accepted-at .slot) (placeIn (request a′ k)) (accepted-at .step)
+
+      pub answer-freed-slot : isRemove asked ≡ true →
+          let i = slotOf table (idAsked asked) in
+          SlotOfId table i (idAsked asked) × (upTo W H w t q (suc k) .table ≡ withRecord table i freeRecord)
+      unfolding after next
+      answer-freed-slot = freed-record W H (upTo W H w t q k .weights) table asked before-stands (accepted-at .slot) (placeIn (request a′ k)) (accepted-at .step)
 
       pub answer-frame : OneFramed W H asked (placeIn (request a′ k)) (upTo W H w t q k) (upTo W H w t q (suc k))
       answer-frame = record { slot = accepted-at .slot; framed = D.block-frame W H q (started (weightsOf w) t) run-stands k (accepted-at .slot) (placeIn (request a′ k)) (accepted-at .step) }

@@ -2,7 +2,7 @@
 -- hypotheses are the contracts that the four exported functions carry in their source (calls/specs/Promise): HostClearedBy, r ≡ hostCheck .., HostRanBy,
 -- HostListedBy. W and H are the sizes, w the bytes of the weights, t those of the table, q those of a block, room the bytes lent for answers or list, r
 -- the number returned; w′, t′, a′, room′ are what the buffers hold afterwards. The proofs stand in the files that the `use` lines name. No axiom is used.
-use mathlib.Core.Path.{_≡_}
+use mathlib.Core.Path.{_≡_, refl}
 use mathlib.Core.Bool.{true, false, not, _&&_}
 use mathlib.Core.Logic.{_↔_}
 use mathlib.Core.List.{List, [], _++_}
@@ -10,9 +10,9 @@ use mathlib.Core.Option.{some}
 use Prim.Native.Nat.{ℕ, suc, _+_, _*_, _≤_, _<_}
 use lib.ListN.{length, getD}
 use Rattle.rules.specs.Tests.{all}
-use Rattle.rules.specs.Surface.{Standing, rect, covers, rectOf, occupied, cell, usedSlots}
+use Rattle.rules.specs.Surface.{Standing, rect, covers, rectOf, recordOf, freeRecord, withRecord, occupied, cell, usedSlots}
 use Rattle.rules.specs.Empties.{Empty, Earlier}
-use Rattle.rules.specs.Requests.{idAsked, ruleOf, wide, high, byRule, isPlace, isRemove, isPin, isExchange, idPlaced, slotOf, pinned, ground, rulePlace, judging, stepOf, answerOf}
+use Rattle.rules.specs.Requests.{idLow, idHigh, idAsked, ruleOf, wide, high, byRule, isPlace, isRemove, isPin, isExchange, makesNew, idPlaced, slotOf, lowestFree, pinned, ground, rulePlace, judging, stepOf, answerOf}
 use Rattle.rules.specs.Blocks.{requests, request}
 use Rattle.rules.specs.Calls.{badBlock, clearLines, checkLines, runLines, listLines}
 use Rattle.rules.specs.Host.{badBytes, weightsOf, bytesOf, hostCheck}
@@ -26,7 +26,7 @@ use Rattle.demands.specs.Sessions.{HostSession, joined, codeOfResult, countOfRe
 use Rattle.demands.proofs.HostRuns as B
 use Rattle.demands.proofs.Demands as D
 use Rattle.calls.specs.Promise.{HostClearedBy, HostRanBy, HostListedBy}
-use Rattle.assured.specs.Chain.{Chain, ChainOf, OneFramed, HoldsList, upTo}
+use Rattle.assured.specs.Chain.{Chain, ChainOf, OneFramed, LowestFree, SlotOfId, HoldsList, upTo}
 use Rattle.assured.proofs.Chains as C
 use Rattle.assured.proofs.Refused as R
 use Rattle.assured.proofs.Answered as A
@@ -56,6 +56,15 @@ list-lowest = R.list-lowest
 pub request-lowest : (W H : ℕ) (w t q room : List ℕ) {r : ℕ} {w′ t′ a′ : List ℕ} → HostRanBy W H w t q room r w′ t′ a′ → codeOfResult r ≡ 0 → (k : ℕ) → k < requests q →
     Lowest (judging W H (upTo W H w t q k .table) (request q k)) (codeIn (request a′ k))
 request-lowest = A.answer-lowest
+
+-- 22, "the place that the rule chose has an occupied cell", is never given: no answer begins with it
+pub request-never-22 : (W H : ℕ) (w t q room : List ℕ) {r : ℕ} {w′ t′ a′ : List ℕ} → HostRanBy W H w t q room r w′ t′ a′ → codeOfResult r ≡ 0 → (k : ℕ) → k < requests q →
+    getD a′ (8 * k) 0 ≡ 22 → ⊥
+request-never-22 = A.answer-never-22
+
+-- "The answer is 8 bytes, ..: code, operation and id as they came": the code of answer k is byte 8·k
+pub code-byte : (a : List ℕ) (k : ℕ) → codeIn (request a k) ≡ getD a (8 * k) 0
+code-byte = A.code-byte
 
 -- ---- "a refusal changes neither the surface nor the table": a call; and its counts are 0
 
@@ -141,6 +150,31 @@ pub removed-gone : (W H : ℕ) (w t q room : List ℕ) {r : ℕ} {w′ t′ a′
     HasModule (upTo W H w t q k .table) (moduleAt (idAsked (request q k)) (placeIn (request a′ k))) × (idPlaced (upTo W H w t q (suc k) .table) (idAsked (request q k)) ≡ false)
 removed-gone = A.answer-gone
 
+-- ---- "Place and pin use the lowest free slot, so a freed slot is used again. Exchange .. keeps its slot": the table is the one before the request with one
+-- record written, in the slot that was the lowest free one, or in the slot of the id; a remove frees that one
+
+pub lowest-slot : (W H : ℕ) (w t q room : List ℕ) {r : ℕ} {w′ t′ a′ : List ℕ} → HostRanBy W H w t q room r w′ t′ a′ → codeOfResult r ≡ 0 → (k : ℕ) → k < requests q →
+    codeIn (request a′ k) ≡ 0 → makesNew (request q k) ≡ true →
+    let p = request q k in
+    let u = upTo W H w t q k .table in
+    LowestFree u (lowestFree u) × (upTo W H w t q (suc k) .table ≡ withRecord u (lowestFree u) (recordOf (idLow p) (idHigh p) (placeIn (request a′ k))))
+lowest-slot = A.answer-new-slot
+
+pub exchange-slot : (W H : ℕ) (w t q room : List ℕ) {r : ℕ} {w′ t′ a′ : List ℕ} → HostRanBy W H w t q room r w′ t′ a′ → codeOfResult r ≡ 0 → (k : ℕ) → k < requests q →
+    codeIn (request a′ k) ≡ 0 → isExchange (request q k) ≡ true →
+    let p = request q k in
+    let u = upTo W H w t q k .table in
+    let i = slotOf u (idAsked p) in
+    SlotOfId u i (idAsked p) × (upTo W H w t q (suc k) .table ≡ withRecord u i (recordOf (idLow p) (idHigh p) (placeIn (request a′ k))))
+exchange-slot = A.answer-exchange-slot
+
+pub remove-slot : (W H : ℕ) (w t q room : List ℕ) {r : ℕ} {w′ t′ a′ : List ℕ} → HostRanBy W H w t q room r w′ t′ a′ → codeOfResult r ≡ 0 → (k : ℕ) → k < requests q →
+    codeIn (request a′ k) ≡ 0 → isRemove (request q k) ≡ true →
+    let u = upTo W H w t q k .table in
+    let i = slotOf u (idAsked (request q k)) in
+    SlotOfId u i (idAsked (request q k)) × (upTo W H w t q (suc k) .table ≡ withRecord u i freeRecord)
+remove-slot = A.answer-freed-slot
+
 -- ==== DEMAND 3: "Take a cleared surface whose sizes stay and whose cells and table nobody else writes to, and any sequence of requests, accepted and
 -- refused, cut anyhow into blocks that are not themselves refused." That is a Chain: it begins with clear's contract, and goes on with run's.
 
@@ -164,6 +198,14 @@ host-every-cut = C.every-chain
 pub chain-requests-refused : (W H n : ℕ) {w t b a : List ℕ} {c : ℕ} → Chain W H n w t b a c → (q room : List ℕ) {r : ℕ} {w′ t′ a′ : List ℕ} → HostRanBy W H w t q room r w′ t′ a′ →
     codeOfResult r ≡ 0 → countOfResult r ≡ 0 → (w′ ≡ w) × (t′ ≡ t)
 chain-requests-refused W H n {w} {t} z q room p e = Y.none-changes-back W H w t q room p e (C.chain-back W H n z)
+
+-- "A surface stands when ..": clear makes one that does, whatever the buffers held, and run leaves one (the header's "freelist_clear makes one, and
+-- freelist_run leaves one"), read from the bytes that the call has written
+pub clear-leaves-standing : (W H : ℕ) (w t : List ℕ) {r : ℕ} {w′ t′ : List ℕ} → HostClearedBy W H w t r w′ t′ → codeOfResult r ≡ 0 → Standing W H (weightsOf w′) t′
+clear-leaves-standing W H w t p e = C.chain-stands W H (length t) (Chain.cleared w t p refl e)
+
+pub run-leaves-standing : (W H : ℕ) (w t q room : List ℕ) {r : ℕ} {w′ t′ a′ : List ℕ} → HostRanBy W H w t q room r w′ t′ a′ → codeOfResult r ≡ 0 → Standing W H (weightsOf w′) t′
+run-leaves-standing = A.leaves-standing
 
 -- ---- "After each request every cell's weight equals the one worked out afresh from the modules that the history of requests says are placed."
 

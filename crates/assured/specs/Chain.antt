@@ -1,11 +1,12 @@
 -- CHAINS OF CALLS: "Take a cleared surface whose sizes stay and whose cells and table nobody else writes to, and any sequence of requests, accepted and
 -- refused, cut anyhow into blocks that are not themselves refused." What the exported calls returned and left is known by their contracts alone.
 use mathlib.Core.Path.{_≡_}
+use mathlib.Core.Bool.{true, false}
 use mathlib.Core.Logic.{_↔_}
 use mathlib.Core.List.{List, [], _++_, List·Memᴰ}
-use Prim.Native.Nat.{ℕ, _+_, _*_, _/_, _%_}
+use Prim.Native.Nat.{ℕ, _+_, _*_, _/_, _%_, _<_}
 use lib.ListN.{length, drop}
-use Rattle.rules.specs.Surface.{Standing, occupied}
+use Rattle.rules.specs.Surface.{Standing, slots, idOf, freeSlot, occupied}
 use Rattle.rules.specs.Empties.{Maximal, Earlier, Ordered, entryRecords, corners}
 use Rattle.rules.specs.Blocks.{State, started, after}
 use Rattle.rules.specs.Host.{weightsOf}
@@ -29,6 +30,18 @@ upTo W H w t q k = after W H q (started (weightsOf w) t) k
 pub record OneFramed (W H : ℕ) (q : List ℕ) (r : Rect) (a z : State) : Type 0 where
   pub slot : ℕ
   pub framed : Framed W H q slot r a z
+
+-- slot i is free, and every slot before it is used
+pub record LowestFree (t : List ℕ) (i : ℕ) : Type 0 where
+  pub slot : i < slots t
+  pub free : freeSlot t i ≡ true
+  pub before : (j : ℕ) → j < i → freeSlot t j ≡ false
+
+-- slot i is used, and n is its id
+pub record SlotOfId (t : List ℕ) (i n : ℕ) : Type 0 where
+  pub slot : i < slots t
+  pub used : freeSlot t i ≡ false
+  pub named : idOf t i ≡ n
 
 -- a chain with the requests b, whatever it has left
 pub record ChainOf (W H n : ℕ) (b : List ℕ) : Type 0 where

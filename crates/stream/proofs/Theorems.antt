@@ -1,16 +1,24 @@
 -- THE STREAM, as theorems about the definitions: each under the sentence that it answers. Assumes nothing.
 use mathlib.Core.Path.{_≡_, sym, ap, _∙_}
-use mathlib.Core.List.{List, _++_}
-use Prim.Native.Nat.{ℕ, _+_, _*_}
+use mathlib.Core.Bool.{true, false}
+use mathlib.Core.Logic.{_↔_}
+use mathlib.Core.List.{List, [], _∷_, _++_}
+use Prim.Native.Nat.{ℕ, _+_, _*_, _/_, _%_, _≤_, _<_}
 use native.Mathlib.Omega.{arith}
 use lib.IntN.{ℤ}
-use lib.ListN.{length, take}
-use Rattle.rules.specs.Requests.{operation, answerOf}
-use Rattle.rules.specs.Blocks.{started, after}
+use lib.ListN.{length, take, drop}
+use Rattle.rules.specs.Requests.{operation, wide, high, answerOf}
+use Rattle.rules.specs.Blocks.{started, request, after}
+use Rattle.rules.specs.Calls.{badSize, clearedWeights, clearedTable}
 use Rattle.rules.specs.declared.Step.the-variants.{Refused}
-use Rattle.stream.specs.Records.{Kept, kept, onto, clearRecordCode, answerTo, nextRecord, records, afterRecords, answersTo}
-use Rattle.stream.specs.Promise.{Ready, Requests, ServedAll}
-use Rattle.stream.proofs.Laws.{clear-refused, none-yet}
+use Rattle.demands.specs.History.{codeIn}
+use Rattle.demands.specs.Sessions.{joined}
+use Rattle.stream.specs.Records.{Kept, kept, onto, strayClear, clearRecordCode, answerTo, nextRecord, records, cut, carried, afterRecords, answersTo}
+use Rattle.stream.specs.Promise.{Ready, AcceptedClear, Requests, ServedAll, ListedBy}
+use Rattle.stream.specs.Input.{begun, whole, rest, afterReads}
+use Rattle.stream.proofs.Laws.{clear-refused, clear-done, none-yet}
+use Rattle.stream.proofs.Clears.{clear-codes, clear-answer, answer-at, eight}
+use Rattle.stream.proofs.Input.{rest-long, lent-whole, carried-rest, reads-are, reads-same}
 use Rattle.stream.proofs.Cuts.{kept-right, answers-right}
 use Rattle.stream.proofs.Blocks.{block-kept, block-answered}
 
@@ -22,12 +30,60 @@ refused-clear-keeps q z p n = clear-refused q z p n .0
 pub answered-eight : (q : List ℕ) (z : Kept) → (operation q ≡ 5 → ⊥) → z .columns ≡ 0 → (nextRecord q z ≡ z) × (answerTo q z ≡ answerOf q (Refused 8))
 answered-eight q z p n = let r = none-yet q z p n in (r .0, ap (answerOf q) (r .1))
 
+-- "Before the first accepted clear every record of another operation is answered 8", and none after it: record k of b, from where there is no surface, is
+-- answered 8 exactly when no earlier record is an accepted clear
+pub eight-exactly : (b : List ℕ) (z : Kept) → z .columns ≡ 0 → (k : ℕ) → k < records b → (operation (request b k) ≡ 5 → ⊥) →
+    (codeIn (request (answersTo b z (records b)) k) ≡ 8) ↔ ((j : ℕ) → j < k → AcceptedClear (request b j) → ⊥)
+eight-exactly b z e = eight b z e (records b)
+
+-- "It prints one line a record": the answer to record k is its k-th eight bytes, on what the records before it have left
+pub record-answered : (b : List ℕ) (z : Kept) (k : ℕ) → k < records b → request (answersTo b z (records b)) k ≡ answerTo (request b k) (afterRecords b z k)
+record-answered b z = answer-at b z (records b)
+
+-- "operation 5, clear: W and H in bytes 4 and 5, the rest zero; codes 12, then 1": 12 exactly when one of the rest is not zero, 1 exactly when all are and W
+-- or H is not in 1..64, 0 exactly when neither applies
+pub clear-record-code : (q : List ℕ) (z : Kept) → operation q ≡ 5 →
+    let c = codeIn (answerTo q z) in
+    ((c ≡ 12) ↔ (strayClear q ≡ true))
+    × ((c ≡ 1) ↔ ((strayClear q ≡ false) × (badSize (wide q) (high q) ≡ true)))
+    × ((c ≡ 0) ↔ ((strayClear q ≡ false) × (badSize (wide q) (high q) ≡ false)))
+clear-record-code = clear-codes
+
+-- "accepted, the answer has x = y = 0 and w, h as W, H": code, operation, id (two bytes), x, y, w, h; what is kept is the cleared surface of that size
+pub clear-record-accepted : (q : List ℕ) (z : Kept) → operation q ≡ 5 → clearRecordCode q ≡ 0 →
+    let W = wide q in
+    let H = high q in
+    (answerTo q z ≡ 0 ∷ 5 ∷ 0 ∷ 0 ∷ 0 ∷ 0 ∷ W ∷ H ∷ [])
+    × (nextRecord q z ≡ kept W H (onto (W * H) (clearedWeights W H) (z .room)) (clearedTable (z .table)))
+clear-record-accepted q z p e = (clear-answer q z p e, clear-done q z p e .0)
+
 -- ---- the input may come in pieces of any size: two pieces of whole records, one behind the other, are served as one
 
 pub pieces-cut : (b c : List ℕ) (z : Kept) → length b ≡ 8 * records b → (k : ℕ) →
     let y = afterRecords b z (records b) in
     (afterRecords (b ++ c) z (records b + k) ≡ afterRecords c y k) × (answersTo (b ++ c) z (records b + k) ≡ answersTo b z (records b) ++ answersTo c y k)
 pieces-cut b c z e k = (kept-right b c (records b) e z k, answers-right b c (records b) e z k)
+
+-- "It reads request records from standard input": in reads of any lengths, each behind the bytes that the one before has left over. What is kept and what is
+-- answered are as if all had come at once, and what is left over at the end are the bytes "after the last whole record"
+
+pub reads-cut : (cs : List (List ℕ)) (z : Kept) →
+    let b = joined [] cs in
+    let y = afterReads cs (begun z) in
+    (y .state ≡ afterRecords b z (records b)) × (y .answers ≡ answersTo b z (records b)) × (y .held ≡ drop (8 * records b) b)
+reads-cut = reads-are
+
+-- "where bytes remain after the last whole record, a last line `cut N`, N being how many"
+pub reads-left : (cs : List (List ℕ)) (z : Kept) → length (afterReads cs (begun z) .held) ≡ cut (joined [] cs)
+reads-left cs z = ap length (reads-are cs z .2) ∙ rest-long (joined [] cs)
+
+-- so two ways in which the same bytes come are alike
+pub reads-alike : (cs ds : List (List ℕ)) (z : Kept) → joined [] cs ≡ joined [] ds → afterReads cs (begun z) ≡ afterReads ds (begun z)
+reads-alike = reads-same
+
+-- where the first n bytes of a buffer b are held ++ read: the program lends its first 8·(n / 8) bytes to `serve`, and after `carry` its first n % 8 are held
+pub buffer-cut : (n : ℕ) (b : List ℕ) → n ≤ length b → (take (8 * (n / 8)) b ≡ whole (take n b)) × (take (n % 8) (carried n b) ≡ rest (take n b))
+buffer-cut n b h = (lent-whole n b h, carried-rest n b h)
 
 -- ---- requests on a surface, one behind the other, are a block of the library: the same weights, table and answers
 
@@ -44,3 +100,9 @@ serve-unique b z w h s t a w′ h′ s′ t′ a′ p q =
     let x = p .holds in
     let y = q .holds in
     (x .columns ∙ sym (y .columns), x .rows ∙ sym (y .rows), x .room ∙ sym (y .room), x .table ∙ sym (y .table), p .answers ∙ sym (q .answers))
+
+-- "Prove for each that two outcomes allowed by it are equal": and two that `list_kept`'s allows (the promises of `whole` and `carry` are equations)
+
+pub list-kept-unique : (z : Kept) (room : List ℕ) (n c : ℕ) (room₁ : List ℕ) (n′ c′ : ℕ) (room₂ : List ℕ) → ListedBy z room n c room₁ → ListedBy z room n′ c′ room₂ →
+    (n ≡ n′) × (c ≡ c′) × (room₁ ≡ room₂)
+list-kept-unique z room n c room₁ n′ c′ room₂ p q = (p .entries ∙ sym (q .entries), p .corners ∙ sym (q .corners), p .written ∙ sym (q .written))

@@ -7,7 +7,7 @@ use lib.ListN.{length, take}
 use Rattle.rules.specs.Surface.{Standing}
 use Rattle.rules.specs.Requests.{operation, answerOf}
 use Rattle.rules.specs.Blocks.{request}
-use Rattle.stream.specs.Records.{Kept, requestStep, afterRequest, answerTo, nextRecord, records, afterRecords, answersTo, entriesKept, cornersKept, listRoom}
+use Rattle.stream.specs.Records.{Kept, clearRecordCode, requestStep, afterRequest, answerTo, nextRecord, records, afterRecords, answersTo, entriesKept, cornersKept, listRoom}
 
 -- sizes and slices are as long as the program's, and the surface stands where there is one
 pub record Ready (w h : ℕ) (s : List ℤ) (t : List ℕ) : Type 0 where
@@ -39,6 +39,10 @@ pub record ServedAll (b : List ℕ) (z : Kept) (w h : ℕ) (s : List ℤ) (t a :
   pub holds : Holds (afterRecords b z (records b)) w h s t
   pub answers : a ≡ answersTo b z (records b)
   pub ready : Ready w h s t
+
+-- a record is an accepted clear
+abbrev pub AcceptedClear : List ℕ → Type 0
+AcceptedClear q = (operation q ≡ 5) × (clearRecordCode q ≡ 0)
 
 -- the first n records of b are requests of the library
 abbrev pub Requests : List ℕ → ℕ → Type 0

@@ -1,0 +1,36 @@
+-- THE INPUT IN READS of any lengths: each read goes behind the bytes that are held, the whole records are served, and the rest is held. That is the loop of
+-- the program `freelist`: `serve` promises the first two of a read's parts (ServedAll), `carry` the third.
+use mathlib.Core.List.{List, [], _∷_, _++_}
+use Prim.Native.Nat.{ℕ, _*_}
+use lib.ListN.{take, drop}
+use Rattle.stream.specs.Records.{Kept, records, afterRecords, answersTo}
+
+-- what there is between two reads: what is kept, all answers so far, and the bytes that are held
+pub record Reading : Type 0 where
+  pub state : Kept
+  pub answers : List ℕ
+  pub held : List ℕ
+
+-- at the start
+abbrev pub begun : Kept → Reading
+begun z = record { state = z; answers = []; held = [] }
+
+-- the whole records of b, and the bytes after the last of them
+abbrev pub whole : List ℕ → List ℕ
+whole b = take (8 * records b) b
+
+abbrev pub rest : List ℕ → List ℕ
+rest b = drop (8 * records b) b
+
+-- the whole records of b are served, and the rest of b is held
+abbrev pub served : List ℕ → Reading → Reading
+served b y = record {
+  state = afterRecords (whole b) (y .state) (records (whole b));
+  answers = y .answers ++ answersTo (whole b) (y .state) (records (whole b));
+  held = rest b;
+}
+
+-- one read after the other
+unfoldable pub afterReads : List (List ℕ) → Reading → Reading
+afterReads [] y = y
+afterReads (c ∷ cs) y = afterReads cs (served (y .held ++ c) y)
