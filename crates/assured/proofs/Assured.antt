@@ -30,6 +30,7 @@ use Rattle.assured.specs.Chain.{Chain, ChainOf, OneFramed, LowestFree, S
 use Rattle.assured.proofs.Chains as C
 use Rattle.assured.proofs.Refused as R
 use Rattle.assured.proofs.Answered as A
+use Rattle.codec.proofs.Laws as X
 use Rattle.assured.proofs.Bytes as Y
 use Rattle.assured.proofs.Lists as L
 
@@ -93,7 +94,7 @@ pub requests-refused : (W H : ℕ) (w t q room : List ℕ) {r : ℕ} {w′ t′ 
 requests-refused = Y.none-changes
 
 pub bytes-back : (W H : ℕ) (w : List ℕ) → ((k : ℕ) → getD w k 0 < 256) → length w ≡ 2 * (W * H) → bytesOf (weightsOf w) ≡ w
-bytes-back W H w bytes = Y.bytes-back w bytes (W * H)
+bytes-back W H w bytes = X.bytes-back w bytes (W * H)
 
 -- ==== DEMAND 2: "The list holds every maximal empty rectangle, as Handa and Vemuri define it, once each and in the stated order, with nothing else in it."
 

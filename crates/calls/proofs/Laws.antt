@@ -1,21 +1,19 @@
 -- Laws of the calls on bytes: what code 0 says, and each way out. Assumes nothing.
-use mathlib.Core.Path.{_≡_, refl, sym, ap, _∙_, subst}
-use mathlib.Core.Bool.{Bool, true, false, not, cond}
-use mathlib.Core.List.{List, [], _∷_, _++_}
-use Prim.Native.Nat.{ℕ, zero, suc, _+_, _*_, _/_, _≤_, _<_}
+use mathlib.Core.Path.{_≡_, refl, sym, ap, _∙_}
+use mathlib.Core.Bool.{Bool, true, false}
+use mathlib.Core.List.{List}
+use Prim.Native.Nat.{ℕ, _*_, _/_, _≤_}
 use native.Mathlib.Omega.{arith}
 use borrow.Author.Tests.{eqb-true, eq-eqb, ne-eqb, not-false}
 use lib.Dec.{eqb}
 use lib.IntN.{ℤ}
 use lib.ListN.{length}
 use Rattle.rules.specs.Judging.{Line, first}
-use Rattle.rules.specs.Surface.{slots, stands, Standing, usedSlots}
-use Rattle.rules.specs.Empties.{corners}
-use Rattle.rules.specs.Calls.{sizeLines, clearLines, clearCode, clearWith, clearedWeights, clearedTable, entriesOf, shortRoom, roomAfter, resultOf, Listed, listResult, listWith}
+use Rattle.rules.specs.Surface.{stands, Standing, usedSlots}
+use Rattle.rules.specs.Calls.{sizeLines, clearLines, clearCode, clearWith, clearedWeights, clearedTable, shortRoom, resultOf, Listed, listResult, listWith}
 use Rattle.rules.specs.Host.{badBytes, weightsOf, bytesOf, hostClear, hostCheck, hostList}
 use Rattle.meaning.proofs.Outcomes.{listRefused, listDone, list-refused-is, list-fallen-is, list-short-is, list-done-is}
-use Rattle.surface.specs.Outcome.{Sized}
-use Rattle.surface.proofs.CallLaws.{Good, good, area, check-refused, check-fallen, check-done}
+use Rattle.surface.proofs.CallLaws.{Good, good, area, standing, check-refused, check-fallen, check-done}
 use Rattle.listing.specs.Listed.{listedResult, listedRoom}
 use Rattle.codec.proofs.Laws.{length-weightsOf}
 use Rattle.calls.specs.Promise.{Lent, HostClearedBy, HostListedBy}
@@ -37,38 +35,11 @@ module _ (W H : ℕ) (b t : List ℕ) where
     pub lent-sides : (W ≤ 64) × (H ≤ 64)
     lent-sides = (lent-good .widest, lent-good .highest)
 
-    pub lent-sized : Sized W H (weightsOf b) t
-    lent-sized =
-        let g = lent-good in
-        record {
-          wide = g .wide;
-          widest = g .widest;
-          high = g .high;
-          highest = g .highest;
-          long = length-weightsOf b ∙ (let q : length b / 2 ≡ W * H = omega (arith, lent-long) in q);
-          whole = g .whole;
-          some = g .some;
-          few = g .few;
-        }
+    pub weights-many : length (weightsOf b) ≡ W * H
+    weights-many = length-weightsOf b ∙ (let q : length b / 2 ≡ W * H = omega (arith, lent-long) in q)
 
-    pub lent-standing : (s : List ℤ) → s ≡ weightsOf b → stands W H s t ≡ true → Standing W H s t
-    lent-standing s e q =
-        let z = lent-sized in
-        record {
-          wide = z .wide;
-          widest = z .widest;
-          high = z .high;
-          highest = z .highest;
-          long = ap length e ∙ z .long;
-          whole = z .whole;
-          some = z .some;
-          few = z .few;
-          sound = q;
-        }
-
-  -- two bytes to a cell
-  pub size-two : (r : ℕ) → r ≡ first (sizeLines (not (eqb (length b) (2 * (W * H)))) W H (length t)) → r ≡ first sizes
-  size-two r e = e
+    pub lent-standing : (s : List ℤ) → s ≡ weightsOf b → stands W H (weightsOf b) t ≡ true → Standing W H s t
+    lent-standing s e q = standing (badBytes W H b) W H s t (l .right) (ap length e ∙ weights-many) (ap (λ z. stands W H z t) e ∙ q)
 
   -- ---- clear
 

@@ -2,12 +2,12 @@
 use mathlib.Core.Path.{_≡_, refl, sym, ap, _∙_}
 use mathlib.Core.Bool.{Bool, true, false, cond}
 use mathlib.Core.List.{List, _++_}
-use Prim.Native.Nat.{ℕ, _+_, _*_}
+use Prim.Native.Nat.{ℕ, _*_, _<_}
 use native.Mathlib.Omega.{arith}
 use borrow.Author.Tests.{ne-eqb}
 use lib.Dec.{eqb}
 use lib.IntN.{ℤ}
-use lib.ListN.{length}
+use lib.ListN.{length, getD}
 use Rattle.rules.specs.Judging.{Line, first}
 use Rattle.rules.specs.Surface.{stands}
 use Rattle.rules.specs.Blocks.{State, started, requests, after}
@@ -15,7 +15,9 @@ use Rattle.rules.specs.Calls.{sizeLines, resultOf, Ran, runResult, runWith}
 use Rattle.rules.specs.Host.{badBytes, weightsOf, bytesOf, hostRun}
 use Rattle.meaning.proofs.Outcomes.{runRefused, runDone, run-refused-is, run-fallen-is, run-done-is}
 use Rattle.lists.specs.Promise.{blockLines}
-use Rattle.lists.proofs.BlockLaws.{sizes-none, GoodBlock, good-block}
+use Rattle.codec.proofs.Laws.{bytes-back}
+use Rattle.requests.specs.Steps.{Ran as RanTo}
+use Rattle.lists.proofs.BlockLaws.{sizes-none, GoodBlock, good-block, none-accepted}
 use Rattle.calls.specs.Promise.{Lent, LentBlock, HostRanBy}
 
 module _ (W H : ℕ) (b t q a : List ℕ) where
@@ -49,12 +51,17 @@ module _ (W H : ℕ) (b t q a : List ℕ) where
   pub ran-fallen : first ahead ≡ 0 → stands W H s t ≡ false → HostRanBy W H b t q a 6 b t a
   ran-fallen e f = ran-by (runRefused bad W H s t q a 6) (run-fallen-is bad W H s t q a e f) 6 b t a refl refl refl refl
 
-  pub ran-done : first ahead ≡ 0 → stands W H s t ≡ true → (n : ℕ) (b′ t′ a′ : List ℕ) →
-      let end = after W H q (started s t) (requests q) in
-      b′ ≡ bytesOf (end .weights) → t′ ≡ end .table → a′ ≡ end .answers → n ≡ end .accepted → HostRanBy W H b t q a (65536 * n) b′ t′ a′
-  ran-done e f n b′ t′ a′ p u v w =
-      let k : 65536 * n ≡ resultOf 0 (after W H q (started s t) (requests q) .accepted) 0 = omega (arith, w) in
-      ran-by (runDone bad W H s t q a) (run-done-is bad W H s t q a e f) (65536 * n) b′ t′ a′ k p u v
+  abbrev end : State
+  end = after W H q (started s t) (requests q)
+
+  pub ran-done : first ahead ≡ 0 → stands W H s t ≡ true → (n : ℕ) (b′ : List ℕ) (s′ : List ℤ) (t′ a′ : List ℕ) → RanTo end s′ t′ a′ n → b′ ≡ bytesOf (end .weights) → HostRanBy W H b t q a (65536 * n) b′ t′ a′
+  ran-done e f n b′ s′ t′ a′ z p =
+      let k : 65536 * n ≡ resultOf 0 (end .accepted) 0 = omega (arith, z .accepted) in
+      ran-by (runDone bad W H s t q a) (run-done-is bad W H s t q a e f) (65536 * n) b′ t′ a′ k p (z .table) (z .answers)
+
+  -- where no request was accepted, the bytes hold what is left as they are
+  pub unwritten : ((k : ℕ) → getD b k 0 < 256) → length b ≡ 2 * (W * H) → end .accepted ≡ 0 → b ≡ bytesOf (end .weights)
+  unwritten y l e = sym (ap bytesOf (none-accepted W H q s t (requests q) e .0) ∙ bytes-back b y (W * H) l)
 
   -- ---- what a block's code 0 says
 

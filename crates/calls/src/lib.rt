@@ -1,17 +1,19 @@
-// What the C host calls: numbers, and lent bytes. The weights are decoded once a call, and encoded only where something was written.
+// What the C host calls: numbers, and lent bytes. The weights are never decoded: they are worked out afresh from the table, and the bytes are held
+// against them. They are encoded only where something was written.
 ghost use mathlib.Core.Path.{_≡_};
-ghost use Prim.Native.Nat.{ℕ, _+_, _*_, _≤_, _<_};
-ghost use lib.ListN.{length};
+ghost use Prim.Native.Nat.{_*_, _≤_, _<_};
+ghost use lib.ListN.{length, replicate};
+ghost use lib.IntN.{pos};
 ghost use Rattle.rules.specs.Calls.{clearedWeights};
 ghost use Rattle.rules.specs.Host.{bytesOf, hostCheck};
-ghost use Rattle.calls.specs.Promise.{Lent, LentBlock, HostClearedBy, HostRanBy, HostListedBy};
+ghost use Rattle.calls.specs.Promise.{Lent, LentBlock, LentExamined, HostClearedBy, HostRanBy, HostListedBy};
 use lists::block_code;
 use requests::run::run_on;
+use surface::calls::Examined;
 use surface::calls::clear_weights;
 use surface::calls::free_slots;
-use surface::calls::stands;
+use surface::calls::work_out;
 use surface::sizes::size_code;
-use surface::slots::used_slots;
 
 fn cleared_on(w: usize, h: usize, a: &mut [i16], b: &mut [u8])
     requires { ⌜ (w ≤ 64) × (h ≤ 64) × (length (now a) ≡ w * h) × (length (now b) ≡ 2 * (w * h)) ⌝ }
@@ -26,7 +28,7 @@ fn clear_bytes(w: usize, h: usize, b: &mut [u8])
     ensures { λ _. ⌜ now (b .exit) ≡ bytesOf (clearedWeights w h) ⌝ }
 {
     let n = w * h;
-    let mut a = [0i16; 4096];
+    let mut a = [1i16; 4096];
     cleared_on(w, h, &mut a[..n], b);
 }
 
@@ -44,15 +46,28 @@ pub extern "C" fn freelist_clear(w: usize, h: usize, weights: &mut [u8], table: 
     0
 }
 
+// The scratch a holds ones. Where the surface stands, it has the lent weights afterwards.
+fn examine(w: usize, h: usize, b: &[u8], t: &[u8], a: &mut [i16]) -> Examined
+    requires { ⌜ Lent w h (now b) (now t) × (now a ≡ replicate (w * h) (pos 1)) ⌝ }
+    ensures { λ r. ⌜ LentExamined w h (now (b .entry)) (now (t .entry)) r (now (a .exit)) ⌝ }
+{
+    let Examined::Stands(used) = work_out(w, h, t, a) else {
+        return Examined::Falls;
+    };
+    if !codec::same(b, a) {
+        return Examined::Falls;
+    }
+    Examined::Stands(used)
+}
+
 fn checked_on(w: usize, h: usize, b: &[u8], t: &[u8], a: &mut [i16]) -> u64
-    requires { ⌜ Lent w h (now b) (now t) × (length (now a) ≡ w * h) ⌝ }
+    requires { ⌜ Lent w h (now b) (now t) × (now a ≡ replicate (w * h) (pos 1)) ⌝ }
     ensures { λ r. ⌜ r ≡ hostCheck w h (now (b .entry)) (now (t .entry)) ⌝ }
 {
-    codec::decode(b, a);
-    if !stands(w, h, a, t) {
+    let Examined::Stands(used) = examine(w, h, b, t, a) else {
         return 6;
-    }
-    65536 * (used_slots(t) as u64)
+    };
+    65536 * (used as u64)
 }
 
 // check: whether the surface stands; counts the used slots. Codes 1, 2, 3, 6.
@@ -65,7 +80,7 @@ pub extern "C" fn freelist_check(w: usize, h: usize, weights: &[u8], table: &[u8
         return code;
     }
     let n = w * h;
-    let mut a = [0i16; 4096];
+    let mut a = [1i16; 4096];
     checked_on(w, h, weights, table, &mut a[..n])
 }
 
@@ -78,15 +93,16 @@ fn ran_on(
     answers: &mut [u8],
     a: &mut [i16],
 ) -> u64
-    requires { ⌜ LentBlock w h (now b) (now t) (now q) (now answers) × (length (now a) ≡ w * h) ⌝ }
+    requires { ⌜ LentBlock w h (now b) (now t) (now q) (now answers) × (now a ≡ replicate (w * h) (pos 1)) ⌝ }
     ensures { λ r. ⌜ HostRanBy w h (now (b .entry)) (now (t .entry)) (now (q .entry)) (now (answers .entry)) r (now (b .exit)) (now (t .exit)) (now (answers .exit)) ⌝ }
 {
-    codec::decode(b, a);
-    if !stands(w, h, a, t) {
+    let Examined::Stands(_) = examine(w, h, b, t, a) else {
         return 6;
-    }
+    };
     let n = run_on(w, h, a, t, q, answers);
-    codec::encode(a, b);
+    if 0 < n {
+        codec::encode(a, b);
+    }
     65536 * (n as u64)
 }
 
@@ -115,18 +131,17 @@ pub extern "C" fn freelist_run(
         return code;
     }
     let n = w * h;
-    let mut a = [0i16; 4096];
+    let mut a = [1i16; 4096];
     ran_on(w, h, weights, table, requests, answers, &mut a[..n])
 }
 
 fn listed_on(w: usize, h: usize, b: &[u8], t: &[u8], room: &mut [u8], a: &mut [i16]) -> u64
-    requires { ⌜ Lent w h (now b) (now t) × (length (now a) ≡ w * h) ⌝ }
+    requires { ⌜ Lent w h (now b) (now t) × (now a ≡ replicate (w * h) (pos 1)) ⌝ }
     ensures { λ r. ⌜ HostListedBy w h (now (b .entry)) (now (t .entry)) (now (room .entry)) r (now (room .exit)) ⌝ }
 {
-    codec::decode(b, a);
-    if !stands(w, h, a, t) {
+    let Examined::Stands(_) = examine(w, h, b, t, a) else {
         return 6;
-    }
+    };
     listing::list_standing(w, h, a, t, room)
 }
 
@@ -146,6 +161,6 @@ pub extern "C" fn freelist_list(
         return code;
     }
     let n = w * h;
-    let mut a = [0i16; 4096];
+    let mut a = [1i16; 4096];
     listed_on(w, h, weights, table, room, &mut a[..n])
 }

@@ -1,20 +1,24 @@
 -- Laws of signed weights, by cases on ℤ. Assumes nothing.
 use mathlib.Core.Path.{_≡_, refl, sym, ap, _∙_, subst, subst⁻¹}
+use mathlib.Core.Bool.{Bool, true, false, _&&_}
 use mathlib.Core.Logic.{⊎-elim}
-use mathlib.Core.Bool.{Bool, true, false, not}
-use Prim.Native.Nat.{ℕ, zero, suc, _+_, _*_, _<_, _≤_, _^_}
+use mathlib.Core.List.{List}
+use Prim.Native.Nat.{ℕ, zero, suc, _+_, _*_, _<_, _≤_}
 use native.Mathlib.Nat.{mul-le-mul-right, le-mul-of-pos-right, add-mul}
+use native.Mathlib.Numerals.{add-one}
 use native.Mathlib.Omega.{arith}
 use borrow.Author.Tests.{le-ltb, ltb-true, eqb-true, eq-eqb}
-use lib.Dec.{T, ltb, eqb}
-use lib.IntN.{ℤ, pos, negsuc, natAbs, negℤ, _-ℤ_, _+ℤ_, +ℤ-idl}
-use lib.Signed.{ltZ, mag, nonNeg}
+use lib.Dec.{T, eqb}
+use lib.ListN.{length, getD}
+use lib.Seq.{ext-getD}
+use lib.IntN.{ℤ, pos, negsuc, natAbs, negℤ, _-ℤ_, +ℤ-idl}
+use lib.Signed.{ltZ, nonNeg}
 use mir.Syntax.{Width, w16, w32, w64}
 use mir.Val.{toZ, ofZ, SFits, Fits}
 use mir.ValLaws.{toZ-ofZ}
-use Rattle.rules.specs.Tests.{eqZ}
-use Rattle.rules.proofs.Tests.{fails, not-both, decide, eqZ-true, eqZ-same}
-use Rattle.cells.specs.Weight.{takenZ, countOf, widthOf}
+use Rattle.rules.specs.Tests.{every, eqZ}
+use Rattle.rules.proofs.Tests.{fails, not-both, decide, every-at, every-yes, every-no, eqZ-true, eqZ-same}
+use Rattle.cells.specs.Weight.{takenZ, countOf, widthOf, sameWeights}
 
 -- what holds of a number holds of what the machine reads back from its bits
 pub back : (w : Width) (P : ℤ → Type 0) {z : ℤ} → SFits w z → P z → P (toZ w (ofZ w z))
@@ -90,3 +94,25 @@ cell-in w x y mw mh i j n hx hn hi hj =
     let a : (y + j + 1) * w ≤ (y + mh) * w = mul-le-mul-right w (omega arith) in
     let b : y + mh ≤ (y + mh) * w = le-mul-of-pos-right (y + mh) (omega arith) in
     (omega (arith, add-mul (y + j) 1 w), omega arith)
+
+-- ---- the same weights
+
+-- one number more, in a walk that looks at all of them
+pub every-hit : (n : ℕ) (p : ℕ → Bool) → p n ≡ true → every (n + 1) p ≡ every n p
+unfolding every
+every-hit n p e = rw (add-one n, e) (and-yes (every n p))
+  where
+    and-yes : (b : Bool) → (b && true) ≡ b
+    and-yes true = refl
+    and-yes false = refl
+
+pub every-miss : (n : ℕ) (p : ℕ → Bool) → p n ≡ false → every (n + 1) p ≡ false
+every-miss n p e = every-no (n + 1) p n (omega arith) e
+
+pub same-equal : (s u : List ℤ) → length s ≡ length u → sameWeights s u ≡ true → s ≡ u
+unfolding sameWeights
+same-equal s u l e = ext-getD (pos 0) s u l (λ k h. eqZ-true _ _ (every-at (length s) (λ k. eqZ (getD s k (pos 0)) (getD u k (pos 0))) e k h))
+
+pub equal-same : (s : List ℤ) → sameWeights s s ≡ true
+unfolding sameWeights
+equal-same s = every-yes (length s) (λ k. eqZ (getD s k (pos 0)) (getD s k (pos 0))) (λ k h. eqZ-same (getD s k (pos 0)))

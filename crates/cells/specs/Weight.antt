@@ -1,10 +1,10 @@
 -- What one signed weight says, as a test and as numbers: "negative 16-bit weights for occupied cells, positive counts for empty".
 use mathlib.Core.Bool.{Bool, true, false, not}
 use mathlib.Core.List.{List}
-use Prim.Native.Nat.{ℕ, zero, suc, _+_, _*_}
+use Prim.Native.Nat.{ℕ, suc, _+_}
 use lib.IntN.{ℤ, pos, negsuc}
-use lib.ListN.{getD}
-use Rattle.rules.specs.Tests.{every}
+use lib.ListN.{length, getD}
+use Rattle.rules.specs.Tests.{every, eqZ}
 use Rattle.rules.specs.Surface.{cell}
 
 -- below 0: the cell is occupied
@@ -25,3 +25,7 @@ widthOf (negsuc n) = suc n
 -- no cell of the w by h rectangle at (x, y) is occupied, as the signs say
 unfoldable pub untaken : ℕ → List ℤ → ℕ → ℕ → ℕ → ℕ → Bool
 untaken W s x y w h = every h (λ j. every w (λ i. not (takenZ (cell W s (x + i) (y + j)))))
+
+-- a list of weights that is as long holds the same
+unfoldable pub sameWeights : List ℤ → List ℤ → Bool
+sameWeights s u = every (length s) (λ k. eqZ (getD s k (pos 0)) (getD u k (pos 0)))

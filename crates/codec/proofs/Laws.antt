@@ -1,20 +1,21 @@
 -- Laws of a signed number and its 16 bits, of weights and their bytes. Assumes nothing.
 use mathlib.Core.Path.{_≡_, refl, sym, ap, _∙_, subst}
 use mathlib.Core.Bool.{true, false}
+use mathlib.Core.Logic.{_⊎_, inl, inr, ⊎-elim}
 use Prim.Native.Nat.{ℕ, zero, suc, _+_, _-_, _*_, _/_, _%_, _<_, _≤_}
+use native.Mathlib.Decide.{decLt}
 use native.Mathlib.Omega.{arith}
 use borrow.Author.Tests.{le-ltb, lt-ltb, ltb-true}
 use mathlib.Core.List.{List, [], _∷_}
-use lib.ListN.{length, getD, set, take}
-use lib.Seq.{length-take-le}
-use lib.Dec.{T, ltb}
+use lib.ListN.{length, getD, set}
+use lib.Seq.{ext-getD}
+use lib.Dec.{T}
 use lib.IntN.{ℤ, pos, negsuc, natAbs, _-ℤ_}
 use lib.Signed.{ltZ, mag, nonNeg}
 use mir.Syntax.{w16}
 use mir.Val.{toZ, ofZ, SFits, Fits}
 use mir.ValLaws.{toZ-ofZ}
 use Rattle.rules.specs.Host.{signed16, bits16, weightAt, weightsOf, bytesOf}
-use Rattle.rules.specs.Tests.{tab}
 use Rattle.cells.proofs.Upto.{Upto, upto-more}
 use Rattle.rules.proofs.Tests.{length-tab, getD-tab}
 
@@ -27,7 +28,7 @@ pub less-pos : (n : ℕ) → negsuc 0 -ℤ pos n ≡ negsuc n
 less-pos zero = refl
 less-pos (suc n) = ap (λ k. negsuc (suc k)) (omega arith)
 
-pub less-neg : (n : ℕ) → negsuc 0 -ℤ negsuc n ≡ pos n
+less-neg : (n : ℕ) → negsuc 0 -ℤ negsuc n ≡ pos n
 less-neg n = rw (le-ltb (suc n) 1 (omega arith)) (ap pos (omega arith))
 
 pub low : (n : ℕ) → n < 32768 → pos n ≡ signed16 n
@@ -73,25 +74,13 @@ bytesOf-high (z ∷ s) (suc k) h = let e : 2 * suc k + 1 ≡ suc (suc (2 * k + 1
 
 -- ---- the weights of a list of bytes
 
--- n weights from bytes
-unfoldable pub decoded : ℕ → List ℕ → List ℤ
-decoded n b = tab n (weightAt b)
-
-pub decoded-is : (n : ℕ) (b : List ℕ) → length b ≡ 2 * n → decoded n b ≡ weightsOf b
-unfolding decoded weightsOf
-decoded-is n b e = ap (λ k. tab k (weightAt b)) (let q : n ≡ length b / 2 = omega arith in q)
-
-pub length-decoded : (n : ℕ) (b : List ℕ) → length (decoded n b) ≡ n
-unfolding decoded
-length-decoded n b = length-tab n (weightAt b)
-
-pub decoded-at : (n : ℕ) (b : List ℕ) (k : ℕ) → k < n → getD (decoded n b) k (pos 0) ≡ weightAt b k
-unfolding decoded
-decoded-at n b k h = getD-tab n k (weightAt b) (pos 0) h
-
 pub length-weightsOf : (b : List ℕ) → length (weightsOf b) ≡ length b / 2
 unfolding weightsOf
 length-weightsOf b = length-tab (length b / 2) (weightAt b)
+
+pub weightsOf-at : (b : List ℕ) (k : ℕ) → k < length b / 2 → getD (weightsOf b) k (pos 0) ≡ weightAt b k
+unfolding weightsOf
+weightsOf-at b k h = getD-tab (length b / 2) k (weightAt b) (pos 0) h
 
 -- one weight more is stored, in two steps
 pub stored-more : (s : List ℤ) (b b′ : List ℕ) (k : ℕ) (z : ℤ) → Upto 0 (bytesOf s) b (2 * k) → k < length s →
@@ -101,6 +90,53 @@ stored-more s b b′ k z u h e ez =
     let second = upto-more (2 * k + 1) first (omega (arith, length-bytesOf s)) e (ap (λ y. bits16 y / 256) ez ∙ sym (bytesOf-high s k h)) in
     subst (Upto 0 (bytesOf s) b′) (omega arith) second
 
--- a part of a list of known length
-pub part : {A : Type 0} (n : ℕ) (l : List A) (m : ℕ) → n ≤ m → length l ≡ m → n ≡ length (take n l)
-part n l m h e = sym (length-take-le n l (omega (arith, e)))
+-- ---- bytes that are bytes
+
+bits-signed : (n : ℕ) → n < 65536 → bits16 (signed16 n) ≡ n
+bits-signed n l = elim (decLt n 32768) [ yes h ↦ ap bits16 (sym (low n h)) | no h ↦ above (omega arith) ]
+  where
+    above : 32768 ≤ n → bits16 (signed16 n) ≡ n
+    above h = ap bits16 (sym (high n h)) ∙ (let q : 65535 - (65535 - n) ≡ n = omega arith in q)
+
+-- a byte's number is twice something, or one more
+record Half (k : ℕ) : Type 0 where
+  half : ℕ
+  which : (k ≡ 2 * half) ⊎ (k ≡ 2 * half + 1)
+
+halved : (k : ℕ) → Half k
+halved k = elim (decLt (k % 2) 1) [ yes h ↦ record { half = k / 2; which = inl (omega arith) } | no h ↦ record { half = k / 2; which = inr (omega arith) } ]
+
+module _ (w : List ℕ) (bytes : (k : ℕ) → getD w k 0 < 256) (n : ℕ) (long : length w ≡ 2 * n) where
+  many : length (weightsOf w) ≡ n
+  many = let q : length w / 2 ≡ n = omega arith in length-weightsOf w ∙ q
+
+  -- the 16 bits of the weight at cell j
+  bits-at : (j : ℕ) → j < n → bits16 (getD (weightsOf w) j (pos 0)) ≡ getD w (2 * j) 0 + 256 * getD w (2 * j + 1) 0
+  bits-at j l =
+      ap bits16 (weightsOf-at w j (omega arith))
+      ∙ bits-signed (getD w (2 * j) 0 + 256 * getD w (2 * j + 1) 0) (omega (arith, bytes (2 * j), bytes (2 * j + 1)))
+
+  byte-back : (k : ℕ) → k < 2 * n → getD (bytesOf (weightsOf w)) k 0 ≡ getD w k 0
+  byte-back k l = go (halved k)
+    where
+      go : Half k → getD (bytesOf (weightsOf w)) k 0 ≡ getD w k 0
+      go h =
+          let j = h .half in
+          ⊎-elim
+          (λ (e : k ≡ 2 * j).
+          let s : j < n = omega arith in
+          let m = bits-at j s in
+          let f = bytesOf-low (weightsOf w) j (omega (arith, many)) in
+          rw e (f ∙ (let g : bits16 (getD (weightsOf w) j (pos 0)) % 256 ≡ getD w (2 * j) 0 = omega (arith, m, bytes (2 * j), bytes (2 * j + 1)) in g)))
+          (λ (e : k ≡ 2 * j + 1).
+          let s : j < n = omega arith in
+          let m = bits-at j s in
+          let f = bytesOf-high (weightsOf w) j (omega (arith, many)) in
+          rw e (f ∙ (let g : bits16 (getD (weightsOf w) j (pos 0)) / 256 ≡ getD w (2 * j + 1) 0 = omega (arith, m, bytes (2 * j), bytes (2 * j + 1)) in g)))
+          (h .which)
+
+  -- BYTES ARE WRITTEN BACK AS THEY WERE READ
+  pub bytes-back : bytesOf (weightsOf w) ≡ w
+  bytes-back =
+      let l : length (bytesOf (weightsOf w)) ≡ length w = (let a = length-bytesOf (weightsOf w) in let b = many in omega arith) in
+      ext-getD 0 (bytesOf (weightsOf w)) w l (λ k h. byte-back k (omega arith))

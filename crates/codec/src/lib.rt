@@ -1,8 +1,8 @@
 // Weights as the host lends them: two bytes each, low byte first, two's complement.
 ghost use mathlib.Core.Path.{_≡_};
-ghost use Prim.Native.Nat.{ℕ, _+_, _*_, _/_, _%_, _≤_, _<_};
-ghost use lib.ListN.{length, getD, set};
-ghost use lib.IntN.{ℤ, pos};
+ghost use Prim.Native.Nat.{_+_, _*_, _/_, _%_, _<_};
+ghost use lib.ListN.{length, set};
+ghost use Rattle.cells.specs.Weight.{sameWeights};
 ghost use Rattle.rules.specs.Host.{signed16, bits16, weightAt, weightsOf, bytesOf};
 
 fn from_bits(n: u16) -> i16
@@ -38,16 +38,20 @@ fn weight_at(b: &[u8], k: usize) -> i16
     from_bits(wide(b[2 * k]) + 256 * wide(b[2 * k + 1]))
 }
 
-// The weights that the bytes hold.
-pub fn decode(b: &[u8], s: &mut [i16])
+// Whether the bytes hold these weights. It looks at all of them, so that the compiler takes many at a time.
+pub fn same(b: &[u8], s: &[i16]) -> bool
     requires { ⌜ length (now b) ≡ 2 * length (now s) ⌝ }
-    ensures { λ _. ⌜ now (s .exit) ≡ weightsOf (now (b .entry)) ⌝ }
+    ensures { λ r. ⌜ r ≡ sameWeights (now (s .entry)) (weightsOf (now (b .entry))) ⌝ }
 {
+    let mut ok = true;
     let mut k = 0;
     while k < s.len() {
-        s[k] = weight_at(b, k);
+        if !cells::is_same(s[k], weight_at(b, k)) {
+            ok = false;
+        }
         k += 1;
     }
+    ok
 }
 
 // The two bytes of a weight.

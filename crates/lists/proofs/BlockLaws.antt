@@ -1,16 +1,16 @@
 -- Laws of a block's own codes, 4 and 5, behind those of the sizes. Assumes nothing.
 use mathlib.Core.Path.{_≡_, refl, sym, _∙_}
 use mathlib.Core.Bool.{Bool, not}
-use mathlib.Core.List.{List, [], _∷_, _++_}
-use Prim.Native.Nat.{ℕ, zero, suc, _+_, _*_, _/_, _%_, _≤_, _<_}
+use mathlib.Core.List.{List, [], _++_}
+use Prim.Native.Nat.{ℕ, zero, suc, _+_, _*_, _/_, _%_, _≤_}
 use native.Mathlib.Omega.{arith}
 use borrow.Author.Tests.{eqb-true, ltb-false, not-false}
 use lib.Dec.{eqb, ltb}
 use lib.IntN.{ℤ}
 use lib.ListN.{length}
-use Rattle.rules.specs.Judging.{Line, first}
-use Rattle.rules.specs.Requests.{stepOf, acceptedOne}
-use Rattle.rules.specs.Blocks.{State, started, requests, request, next, after}
+use Rattle.rules.specs.Judging.{first}
+use Rattle.rules.specs.Requests.{stepOf, acceptedOne, weightsAfter, tableAfter}
+use Rattle.rules.specs.Blocks.{started, requests, request, next, after}
 use Rattle.rules.specs.declared.Step.{Step}
 use Rattle.rules.specs.declared.Step.the-variants.{Refused, Done}
 use Rattle.rules.specs.Calls.{sizeLines, badBlock}
@@ -60,3 +60,18 @@ accepted-few W H q s t (suc k) = go (stepOf W H (after W H q (started s t) k .ta
     go : (d : Step) → after W H q (started s t) k .accepted ≤ k → after W H q (started s t) k .accepted + acceptedOne d ≤ suc k
     go (Refused c) h = omega arith
     go (Done i r) h = omega arith
+
+-- a block whose requests are all refused
+pub none-accepted : (W H : ℕ) (q : List ℕ) (s : List ℤ) (t : List ℕ) (k : ℕ) →
+    let end = after W H q (started s t) k in
+    end .accepted ≡ 0 → (end .weights ≡ s) × (end .table ≡ t)
+unfolding after next
+none-accepted W H q s t zero e = (refl, refl)
+none-accepted W H q s t (suc k) e = go (stepOf W H (after W H q (started s t) k .table) (request q k)) e (none-accepted W H q s t k)
+  where
+    go : (d : Step) → after W H q (started s t) k .accepted + acceptedOne d ≡ 0 →
+        (after W H q (started s t) k .accepted ≡ 0 → (after W H q (started s t) k .weights ≡ s) × (after W H q (started s t) k .table ≡ t)) →
+        (weightsAfter W H (request q k) d (after W H q (started s t) k .table) (after W H q (started s t) k .weights) ≡ s)
+        × (tableAfter (request q k) d (after W H q (started s t) k .table) ≡ t)
+    go (Refused c) f h = h (omega arith)
+    go (Done i r) f h = absurd (omega arith)

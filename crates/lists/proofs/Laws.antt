@@ -1,20 +1,18 @@
 -- Laws of the calls on lent lists: what code 0 says, and each way out. Assumes nothing.
-use mathlib.Core.Path.{_≡_, refl, sym, ap, _∙_, subst}
-use mathlib.Core.Bool.{Bool, true, false, not, cond}
-use mathlib.Core.List.{List, [], _∷_, _++_}
-use Prim.Native.Nat.{ℕ, _+_, _*_, _/_, _≤_, _<_}
+use mathlib.Core.Path.{_≡_, refl, sym, ap, _∙_}
+use mathlib.Core.Bool.{Bool, true, false, not}
+use mathlib.Core.List.{List, _++_}
+use Prim.Native.Nat.{ℕ, _*_}
 use native.Mathlib.Omega.{arith}
 use lib.Dec.{eqb}
 use lib.IntN.{ℤ}
 use lib.ListN.{length}
 use Rattle.rules.specs.Judging.{Line, first}
 use Rattle.rules.specs.Surface.{stands, Standing}
-use Rattle.rules.specs.Empties.{corners}
-use Rattle.rules.specs.Blocks.{State, started, requests, after}
-use Rattle.rules.specs.Calls.{badWeights, sizeLines, resultOf, Ran, runResult, run, entriesOf, shortRoom, roomAfter, Listed, listResult, list}
+use Rattle.rules.specs.Blocks.{started, requests, after}
+use Rattle.rules.specs.Calls.{badWeights, sizeLines, resultOf, Ran, runResult, run, shortRoom, Listed, listResult, list}
 use Rattle.meaning.proofs.Outcomes.{runRefused, runDone, run-refused-is, run-fallen-is, run-done-is, listRefused, listDone, list-refused-is, list-fallen-is, list-short-is, list-done-is}
-use Rattle.surface.specs.Outcome.{Sized}
-use Rattle.surface.proofs.CallLaws.{sized}
+use Rattle.surface.proofs.CallLaws.{weights-long, standing}
 use Rattle.listing.specs.Listed.{listedResult, listedRoom}
 use Rattle.requests.specs.Steps.{Ran as RanTo}
 use Rattle.lists.specs.Promise.{blockLines, RanBy, ListedBy}
@@ -24,21 +22,8 @@ module _ (W H : ℕ) (s : List ℤ) (t : List ℕ) where
   abbrev bad : Bool
   bad = badWeights W H s
 
-  -- a surface of right sizes and lengths that stands
-  pub standing : first (sizeLines bad W H (length t)) ≡ 0 → stands W H s t ≡ true → Standing W H s t
-  standing e q =
-      let z = sized W H s t e in
-      record {
-        wide = z .wide;
-        widest = z .widest;
-        high = z .high;
-        highest = z .highest;
-        long = z .long;
-        whole = z .whole;
-        some = z .some;
-        few = z .few;
-        sound = q;
-      }
+  pub sized-standing : first (sizeLines bad W H (length t)) ≡ 0 → stands W H s t ≡ true → Standing W H s t
+  sized-standing e = standing bad W H s t e (weights-long W H (length t) s e)
 
   -- ---- run a block
 

@@ -1,21 +1,22 @@
 -- What a weight tells: the run of empty cells that ends in a cell, and the sign. Callers cite these laws and never the text of `weight`. Assumes nothing.
-use mathlib.Core.Path.{_≡_, refl, sym, ap, ap₂, _∙_, subst}
-use mathlib.Core.Bool.{Bool, true, false, not, cond, _&&_, true≢false}
+use mathlib.Core.Path.{_≡_, refl, sym, ap, ap₂, _∙_}
+use mathlib.Core.Bool.{Bool, true, false, not, cond, true≢false}
 use mathlib.Core.Logic.{⊎-elim}
 use mathlib.Core.List.{List}
 use Prim.Native.Nat.{ℕ, zero, suc, _+_, _-_, _*_, _/_, _%_, _≤_, _<_}
-use native.Mathlib.Nat.{le-refl, eq-or-lt-of-le, mul-comm}
+use native.Mathlib.Nat.{le-refl, eq-or-lt-of-le, mul-comm, mod-lt, div-add-mod', div-lt-iff-lt-mul}
 use native.Mathlib.Omega.{arith}
 use lib.Arith.{digits-lt, digits-div, digits-mod}
 use lib.Dec.{leb, ltb}
 use lib.IntN.{ℤ, pos, negsuc, negℤ}
 use lib.ListN.{length, getD}
+use lib.Seq.{ext-getD}
 use lib.Signed.{ltZ}
 use borrow.Author.Tests.{leb-true, ltb-true, lt-ltb}
 use Rattle.rules.specs.Tests.{every, eqZ}
 use Rattle.rules.specs.Surface.{covers, slots, rectOf, usedSlot, holds, occupied, holder, upwards, remaining, weight, cell, fresh, slotsSound, idsDiffer, modulesApart, weightsRight, stands}
 use Rattle.rules.specs.declared.Rect.{Rect}
-use Rattle.rules.proofs.Tests.{and-left, and-right, and-four, any-at, least-is, Least, fails, every-at, eqZ-true, length-tab, getD-tab}
+use Rattle.rules.proofs.Tests.{and-left, and-right, and-four, any-at, least-is, every-at, every-yes, eqZ-true, eqZ-same, length-tab, getD-tab}
 
 -- ---- the run of empty cells that ends in cell (x, y)
 
@@ -162,3 +163,23 @@ unfolding fresh
 fresh-cell W H t x y p q =
     getD-tab (W * H) (y * W + x) (λ k. weight t (k % W) (k / W)) (pos 0) (let d = digits-lt q p in omega (arith, mul-comm W H))
     ∙ ap₂ (weight t) (digits-mod y p) (digits-div y p)
+
+pub fresh-long : (W H : ℕ) (t : List ℕ) → length (fresh W H t) ≡ W * H
+unfolding fresh
+fresh-long W H t = length-tab (W * H) (λ k. weight t (k % W) (k / W))
+
+-- WEIGHTS THAT ARE RIGHT AT EVERY CELL ARE THE FRESH ONES
+pub fresh-of : (W H : ℕ) (t : List ℕ) (s : List ℤ) → 0 < W → length s ≡ W * H → ((c r : ℕ) → c < W → r < H → cell W s c r ≡ weight t c r) → s ≡ fresh W H t
+unfolding fresh
+fresh-of W H t s w e h =
+    ext-getD (pos 0) s _ (e ∙ sym (fresh-long W H t))
+    (λ k lt. ap (λ n. getD s n (pos 0)) (sym (div-add-mod' k W))
+    ∙ h (k % W) (k / W) (mod-lt k w) (div-lt-iff-lt-mul w .1 (omega (arith, mul-comm W H)))
+    ∙ sym (getD-tab (W * H) k (λ k. weight t (k % W) (k / W)) (pos 0) (omega arith)))
+
+-- and the fresh ones are right
+pub right-fresh : (W H : ℕ) (t : List ℕ) → weightsRight W H (fresh W H t) t ≡ true
+unfolding weightsRight
+right-fresh W H t =
+    every-yes H _ (λ y hy. every-yes W _ (λ x hx.
+    ap (λ z. eqZ z (weight t x y)) (fresh-cell W H t x y hx hy) ∙ eqZ-same (weight t x y)))

@@ -12,13 +12,12 @@ use Rattle.rules.specs.Tests.{any, leastFrom, least}
 use Rattle.rules.specs.Surface.{covers, slots, rectOf, freeSlot, holds, occupied, holder, cell, fresh}
 use Rattle.rules.specs.declared.Rect.{Rect}
 use Rattle.rules.proofs.Tests.{any-yes, any-none, or-right, fails, not-both}
-use Rattle.meaning.proofs.Weights.{covers-within, holder-low, holder-holds, fresh-cell}
+use Rattle.meaning.proofs.Weights.{covers-within, holder-low, holder-holds, fresh-cell, fresh-long, fresh-of}
 use Rattle.modules.specs.Column.{column, weightIn, beside}
 use Rattle.modules.specs.Walk.{HoldsAll, Added, Removed}
 use Rattle.modules.specs.Change.{Reached, Spared}
 use Rattle.modules.specs.Change.Spared.{aside, higher, past}
 use Rattle.modules.proofs.Column.{lt-or-le, weight-same, weight-after, beside-out, column-taken, column-empty, column-number, weight-column}
-use Rattle.modules.proofs.Grid.{fresh-long, fresh-of}
 use Rattle.modules.proofs.Records.{Alike, alike-slots, alike-rect, alike-holds}
 
 any-same : (n : ℕ) (p q : ℕ → Bool) → ((k : ℕ) → p k ≡ q k) → any n p ≡ any n q

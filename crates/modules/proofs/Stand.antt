@@ -9,13 +9,12 @@ use borrow.Author.Tests.{leb-true, le-leb, eqb-true, eq-eqb, not-true}
 use lib.Dec.{leb, eqb}
 use lib.IntN.{ℤ}
 use lib.ListN.{length}
-use Rattle.rules.specs.Tests.{every, eqZ}
-use Rattle.rules.specs.Surface.{slots, idOf, rectOf, spareZero, freeSlot, usedSlot, holds, weight, fresh, soundSlot, slotsSound, idsDiffer, modulesApart, weightsRight, stands, Standing}
-use Rattle.rules.proofs.Tests.{and-left, and-right, and-both, four-and, or-which, or-left, or-right, decide, fails, not-both, every-at, every-yes, eqZ-same}
-use Rattle.meaning.proofs.Weights.{stands-cell, stands-slots, stands-ids, stands-apart, fresh-cell}
+use Rattle.rules.specs.Tests.{every}
+use Rattle.rules.specs.Surface.{slots, idOf, rectOf, spareZero, freeSlot, usedSlot, holds, fresh, soundSlot, slotsSound, idsDiffer, modulesApart, stands, Standing}
+use Rattle.rules.proofs.Tests.{and-left, and-right, and-both, four-and, or-which, or-left, or-right, decide, fails, not-both, every-at, every-yes}
+use Rattle.meaning.proofs.Weights.{stands-cell, stands-slots, stands-ids, stands-apart, fresh-long, fresh-of, right-fresh}
 use Rattle.modules.specs.Walk.{On}
 use Rattle.modules.proofs.Column.{lt-or-le}
-use Rattle.modules.proofs.Grid.{fresh-long, fresh-of}
 
 -- ---- a slot is sound
 
@@ -124,12 +123,6 @@ module _ (W H : ℕ) (t : List ℕ) where
 -- THE WEIGHTS OF A SURFACE THAT STANDS ARE THE FRESH ONES
 pub standing-fresh : (W H : ℕ) (s : List ℤ) (t : List ℕ) → Standing W H s t → s ≡ fresh W H t
 standing-fresh W H s t d = fresh-of W H t s (d .wide) (d .long) (λ c r hc hr. stands-cell W H s t (d .sound) c r hc hr)
-
-right-fresh : (W H : ℕ) (t : List ℕ) → weightsRight W H (fresh W H t) t ≡ true
-unfolding weightsRight
-right-fresh W H t =
-    every-yes H _ (λ y hy. every-yes W _ (λ x hx.
-    ap (λ z. eqZ z (weight t x y)) (fresh-cell W H t x y hx hy) ∙ eqZ-same (weight t x y)))
 
 -- a table that is sound, of a surface with sizes that are right
 pub record SoundTable (W H : ℕ) (t : List ℕ) : Type 0 where

@@ -1,66 +1,88 @@
 -- Laws of the calls: the scratch, the parts of "a surface stands", a call's code. Assumes nothing.
-use mathlib.Core.Path.{_≡_, refl, sym, ap, ap₂, _∙_, subst}
-use mathlib.Core.Bool.{Bool, true, false, not, cond, _&&_, _||_}
-use mathlib.Core.Logic.{_⊎_, inl, inr, ⊎-elim}
-use mathlib.Core.List.{List, [], _∷_, _++_}
-use Prim.Native.Nat.{ℕ, zero, suc, _+_, _*_, _/_, _%_, _≤_, _<_}
-use native.Mathlib.Nat.{mul-le-mul, mul-comm}
+use mathlib.Core.Path.{_≡_, refl, sym, ap, _∙_, subst}
+use mathlib.Core.Bool.{Bool, true, false, not, cond, true≢false}
+use mathlib.Core.Logic.{⊎-elim}
+use mathlib.Core.List.{List, _∷_, _++_}
+use Prim.Native.Nat.{ℕ, zero, suc, _*_, _/_, _%_, _≤_}
+use native.Mathlib.Nat.{mul-le-mul}
 use native.Mathlib.Omega.{arith}
-use borrow.Author.Tests.{eqb-true, eq-eqb, ne-eqb, leb-true, not-true, not-false}
-use lib.Arith.{digits-lt}
+use borrow.Author.Tests.{eqb-true, eq-eqb, ne-eqb, leb-true, not-false}
 use lib.Dec.{leb, eqb}
 use lib.IntN.{ℤ, pos}
-use lib.ListN.{length, getD, take, replicate, length-replicate, getD-replicate}
+use lib.ListN.{length, take, replicate}
 use lib.Seq.{length-take-le}
-use Rattle.rules.specs.Tests.{every, any, between}
+use Rattle.rules.specs.Tests.{between}
 use Rattle.rules.specs.Judging.{Line, _when_, first}
-use Rattle.rules.specs.Surface.{slots, cell, holds, stands, slotsSound, idsDiffer, modulesApart, weightsRight, usedSlots}
-use Rattle.rules.specs.Calls.{badSize, badTable, badWeights, sizeLines, standLines, clearLines, clearCode, clearedWeights, clearedTable, clearWith, clear, clearResult, checkLines, checkCode, checkWith, check, checkResult}
-use Rattle.rules.proofs.Tests.{and-left, and-right, or-neither, decide}
+use Rattle.rules.specs.Surface.{slots, usedSlot, fresh, stands, Standing, weightsRight, usedSlots}
+use Rattle.rules.specs.Calls.{badSize, badTable, badWeights, sizeLines, standLines, clearLines, clearCode, clearedWeights, clearedTable, clearWith, checkLines, checkCode, checkWith, checkResult}
+use Rattle.rules.proofs.Tests.{and-left, and-right, and-both, or-neither, fails, decide}
 use Rattle.meaning.proofs.Lowest.{rising, first-stop, first-over}
-use Rattle.surface.specs.Marks.{markOf, MarkedTo}
-use Rattle.surface.specs.Outcome.{ClearedBy, Sized}
-use Rattle.surface.proofs.SlotLaws.{good-size}
-use Rattle.surface.proofs.MarkLaws.{mark-open}
+use Rattle.meaning.proofs.Weights.{stands-cell, fresh-long, fresh-of, right-fresh}
+use Rattle.cells.specs.Weight.{sameWeights}
+use Rattle.cells.proofs.Laws.{same-equal, equal-same}
+use Rattle.surface.specs.Slots.{tableStands}
+use Rattle.surface.specs.Outcome.{ClearedBy, codeOf, usedOf, examined, WorkedOut}
+use Rattle.surface.specs.declared.calls.Examined.{Examined}
+use Rattle.surface.specs.declared.calls.Examined.the-variants.{Stands, Falls}
+use Rattle.surface.proofs.SlotLaws.{good-size, count-le}
 
 -- ---- the scratch
 
-pub zeros-part : (n k : ℕ) → n ≤ k → take n (replicate k (pos 0)) ≡ replicate n (pos 0)
-zeros-part zero k h = refl
-zeros-part (suc n) zero h = absurd (omega arith)
-zeros-part (suc n) (suc k) h = ap (λ l. pos 0 ∷ l) (zeros-part n k (omega arith))
+pub ones-part : (n k : ℕ) → n ≤ k → take n (replicate k (pos 1)) ≡ replicate n (pos 1)
+ones-part zero k h = refl
+ones-part (suc n) zero h = absurd (omega arith)
+ones-part (suc n) (suc k) h = ap (λ l. pos 1 ∷ l) (ones-part n k (omega arith))
 
 -- a part of a list of known length
 pub part : {A : Type 0} (n : ℕ) (l : List A) (m : ℕ) → n ≤ m → length l ≡ m → n ≡ length (take n l)
 part n l m h e = sym (length-take-le n l (omega (arith, e)))
 
--- nothing is marked yet
-pub blank : (W H : ℕ) (t : List ℕ) (m : List ℤ) → m ≡ replicate (W * H) (pos 0) → MarkedTo W H t 0 m
-unfolding any
-blank W H t m e = record {
-  long = ap length e ∙ length-replicate (W * H) (pos 0);
-  cells = λ x y a b.
-      ap (λ l. cell W l x y) e ∙ getD-replicate (W * H) (y * W + x) (pos 0) (pos 0) (let d = digits-lt b a in omega (arith, mul-comm W H)) ∙ sym (mark-open t 0 x y refl);
-  apart = λ x y a b j h. absurd (omega arith);
-}
+-- ---- the surface stands exactly when its table does and the lent weights are those worked out
 
--- ---- the four parts, as far as they hold
+pub stood : (b : Bool) (t : List ℕ) (u : ℕ) → Stands u ≡ examined b t → (b ≡ true) × (u ≡ usedSlots t)
+stood true t u e = (refl, ap usedOf e)
+stood false t u e = absurd (let z : _≡_ {A = ℕ} 0 6 = ap codeOf e in omega arith)
 
-pub falls-1 : (W H : ℕ) (s : List ℤ) (t : List ℕ) → slotsSound W H t ≡ false → stands W H s t ≡ false
-unfolding stands
-falls-1 W H s t a = rw a
+pub fallen : (b : Bool) (t : List ℕ) → Falls ≡ examined b t → b ≡ false
+fallen true t e = absurd (let z : _≡_ {A = ℕ} 6 0 = ap codeOf e in omega arith)
+fallen false t e = refl
 
-pub falls-2 : (W H : ℕ) (s : List ℤ) (t : List ℕ) → slotsSound W H t ≡ true → idsDiffer t ≡ false → stands W H s t ≡ false
-unfolding stands
-falls-2 W H s t a b = rw (a, b)
+pub stands-is : (b : Bool) (t : List ℕ) (u : ℕ) → b ≡ true → u ≡ usedSlots t → Stands u ≡ examined b t
+stands-is b t u e q = ap Stands q ∙ sym (ap (λ c. examined c t) e)
 
-pub falls-3 : (W H : ℕ) (s : List ℤ) (t : List ℕ) → slotsSound W H t ≡ true → idsDiffer t ≡ true → modulesApart W H t ≡ false → stands W H s t ≡ false
-unfolding stands
-falls-3 W H s t a b c = rw (a, b, c)
+pub falls-is : (b : Bool) (t : List ℕ) → b ≡ false → Falls ≡ examined b t
+falls-is b t e = sym (ap (λ c. examined c t) e)
 
-pub stands-4 : (W H : ℕ) (s : List ℤ) (t : List ℕ) → slotsSound W H t ≡ true → idsDiffer t ≡ true → modulesApart W H t ≡ true → stands W H s t ≡ weightsRight W H s t
-unfolding stands
-stands-4 W H s t a b c = rw (a, b, c)
+module _ (W H : ℕ) (s : List ℤ) (t : List ℕ) where
+  stands-same : 1 ≤ W → length s ≡ W * H → tableStands W H t ≡ true → stands W H s t ≡ sameWeights (fresh W H t) s
+  unfolding stands tableStands
+  stands-same w l e =
+      ⊎-elim
+      (λ (q : sameWeights (fresh W H t) s ≡ true).
+      and-both e (ap (λ z. weightsRight W H z t) (sym (same-equal (fresh W H t) s (fresh-long W H t ∙ sym l) q)) ∙ right-fresh W H t) ∙ sym q)
+      (λ (q : sameWeights (fresh W H t) s ≡ false).
+      fails (stands W H s t) (λ z.
+      let f = fresh-of W H t s w l (λ x y a b. stands-cell W H s t z x y a b) in
+      true≢false (sym (equal-same (fresh W H t)) ∙ ap (sameWeights (fresh W H t)) (sym f) ∙ q)) ∙ sym q)
+      (decide (sameWeights (fresh W H t) s))
+
+-- what was worked out, where the table falls and where it stands, with u slots used
+module _ (W H : ℕ) (s m : List ℤ) (t : List ℕ) (r : Examined) (w : WorkedOut W H t r m) where
+  pub table-fallen : r ≡ Falls → stands W H s t ≡ false
+  unfolding stands tableStands
+  table-fallen e = let q = fallen (tableStands W H t) t (sym e ∙ w .answer) in rw q
+
+  -- all that is left to ask is whether the lent weights are those worked out
+  pub record Worked (u : ℕ) : Type 0 where
+    pub long : length m ≡ W * H
+    pub used : u ≡ usedSlots t
+    pub same : stands W H s t ≡ sameWeights m s
+
+  pub table-stood : 1 ≤ W → length s ≡ W * H → (u : ℕ) → r ≡ Stands u → Worked u
+  table-stood h l u e =
+      let q = stood (tableStands W H t) t u (sym e ∙ w .answer) in
+      let f = w .weights (q .0) in
+      record { long = ap length f ∙ fresh-long W H t; used = q .1; same = stands-same W H s t h l (q .0) ∙ ap (λ z. sameWeights z s) (sym f) }
 
 -- ---- what code 0 says of the sizes
 
@@ -68,6 +90,10 @@ pub first-none : (b : Bool) (c : ℕ) (ls : List Line) → 1 ≤ c → first (c 
 unfolding first
 first-none true c ls h e = absurd (omega arith)
 first-none false c ls h e = (refl, e)
+
+pub used-few : (t : List ℕ) → usedSlots t ≤ slots t
+unfolding usedSlots
+used-few t = count-le (slots t) (usedSlot t)
 
 pub area : (W H : ℕ) → W ≤ 64 → H ≤ 64 → W * H ≤ 4096
 area W H a b = let m : W * H ≤ 64 * 64 = mul-le-mul a b in omega arith
@@ -103,19 +129,28 @@ good bad W H n e =
       few = leb-true (n / 8) 256 (and-right (leb 1 (n / 8)) (leb (n / 8) 256) k);
     }
 
-pub sized : (W H : ℕ) (s : List ℤ) (t : List ℕ) → first (sizeLines (badWeights W H s) W H (length t)) ≡ 0 → Sized W H s t
-sized W H s t e =
-    let g = good (badWeights W H s) W H (length t) e in
+pub weights-long : (W H n : ℕ) (s : List ℤ) → first (sizeLines (badWeights W H s) W H n) ≡ 0 → length s ≡ W * H
+weights-long W H n s e = eqb-true (length s) (W * H) (not-false _ (good (badWeights W H s) W H n e .fits))
+
+-- a surface of right sizes and lengths that stands
+pub standing : (bad : Bool) (W H : ℕ) (s : List ℤ) (t : List ℕ) → first (sizeLines bad W H (length t)) ≡ 0 → length s ≡ W * H → stands W H s t ≡ true → Standing W H s t
+standing bad W H s t e l q =
+    let g = good bad W H (length t) e in
     record {
       wide = g .wide;
       widest = g .widest;
       high = g .high;
       highest = g .highest;
-      long = eqb-true (length s) (W * H) (not-false _ (g .fits));
+      long = l;
       whole = g .whole;
       some = g .some;
       few = g .few;
+      sound = q;
     }
+
+-- what is asked of the table alone
+pub table-sized : (bad : Bool) (W H n : ℕ) → first (sizeLines bad W H n) ≡ 0 → first (sizeLines false W H n) ≡ 0
+table-sized bad W H n e = subst (λ b. first (sizeLines b W H n) ≡ 0) (good bad W H n e .fits) e
 
 -- ---- the codes of clear and check, by the sizes' code
 

@@ -2,33 +2,17 @@
 use mathlib.Core.Path.{_≡_, refl, sym, ap, _∙_}
 use mathlib.Core.List.{List}
 use mathlib.Core.Logic.{⊎-elim}
-use Prim.Native.Nat.{ℕ, zero, suc, _+_, _-_, _*_, _/_, _≤_, _<_}
+use Prim.Native.Nat.{ℕ, _+_, _-_, _*_, _/_, _≤_, _<_}
 use native.Mathlib.Nat.{add-mul, mul-comm}
 use native.Mathlib.Omega.{arith}
-use borrow.Author.Count.{below-more}
 use lib.Arith.{digits-div}
-use lib.ListN.{length, getD, set, length-set}
-use lib.Seq.{getD-set-same, getD-set-other, ext-getD}
+use lib.ListN.{length, getD}
+use lib.Seq.{ext-getD}
 use lib.IntN.{ℤ, pos}
 use Rattle.rules.specs.Calls.{clearedWeights}
 use Rattle.rules.proofs.Tests.{length-tab, getD-tab}
 use Rattle.meaning.proofs.Bound.{lt-or-le}
-use Rattle.surface.specs.Outcome.{RowFilled}
-
-pub fill-none : (s : List ℤ) (at : ℕ) (v : ℤ) → RowFilled s s at 0 v
-fill-none s at v = record { long = refl; inside = λ k h. absurd (omega arith); before = λ k h. refl; after = λ k h. refl }
-
-pub fill-more : (s₀ s t : List ℤ) (at i : ℕ) (v : ℤ) → RowFilled s₀ s at i v → at + i < length s → t ≡ set s (at + i) v → RowFilled s₀ t at (i + 1) v
-fill-more s₀ s t at i v r lt e =
-    record {
-      long = ap length e ∙ length-set s (at + i) v ∙ r .long;
-      inside = below-more _ i (λ k h. other (at + k) (λ q. omega arith) ∙ r .inside k h) (ap (λ l. getD l (at + i) (pos 0)) e ∙ getD-set-same s (at + i) v (pos 0) lt);
-      before = λ k h. other k (λ q. omega arith) ∙ r .before k h;
-      after = λ k h. other k (λ q. omega arith) ∙ r .after k (omega arith);
-    }
-  where
-    other : (k : ℕ) → (k ≡ at + i → ⊥) → getD t k (pos 0) ≡ getD s k (pos 0)
-    other k ne = ap (λ l. getD l k (pos 0)) e ∙ getD-set-other s (at + i) k v (pos 0) ne
+use Rattle.surface.specs.Rows.{RowWritten}
 
 -- the first y rows are cleared
 pub record ClearedTo (w y : ℕ) (s₀ s : List ℤ) : Type 0 where
@@ -38,7 +22,7 @@ pub record ClearedTo (w y : ℕ) (s₀ s : List ℤ) : Type 0 where
 pub cleared-none : (w : ℕ) (s : List ℤ) → ClearedTo w 0 s s
 cleared-none w s = record { long = refl; rows = λ k h. absurd (omega (arith, h)) }
 
-pub cleared-more : (w y : ℕ) (s₀ s t : List ℤ) → ClearedTo w y s₀ s → RowFilled s t (y * w) w (pos (y + 1)) → ClearedTo w (y + 1) s₀ t
+pub cleared-more : (w y : ℕ) (s₀ s t : List ℤ) → ClearedTo w y s₀ s → RowWritten s t (y * w) w (λ _. pos (y + 1)) → ClearedTo w (y + 1) s₀ t
 cleared-more w y s₀ s t d r = record { long = r .long ∙ d .long; rows = λ k h. ⊎-elim (old k) (new k h) (lt-or-le k (y * w)) }
   where
     old : (k : ℕ) → k < y * w → getD t k (pos 0) ≡ pos (k / w + 1)

@@ -1,51 +1,34 @@
--- Laws of the marks. Nothing here speaks of a function's places. Assumes nothing.
+-- Laws of the marks, and of the slots taken in turn. Nothing here speaks of a function's places. Assumes nothing.
 use mathlib.Core.Path.{_≡_, refl, sym, ap, ap₂, _∙_, subst}
-use mathlib.Core.Bool.{Bool, true, false, not, cond, _&&_}
+use mathlib.Core.Bool.{Bool, true, false, not, cond, _&&_, true≢false}
 use mathlib.Core.Logic.{_⊎_, inl, inr, ⊎-elim}
 use mathlib.Core.List.{List}
 use Prim.Native.Nat.{ℕ, zero, suc, _+_, _-_, _*_, _≤_, _<_}
-use native.Mathlib.Nat.{eq-or-lt-of-le, le-of-suc-le-suc, mul-le-mul-right, add-mul, le-mul-of-pos-right, mul-comm}
-use native.Mathlib.Numerals.{add-one}
+use native.Mathlib.Nat.{eq-or-lt-of-le, mul-le-mul-right, add-mul, le-mul-of-pos-right, mul-comm}
 use native.Mathlib.Omega.{arith}
 use borrow.Author.Count.{below-more}
-use borrow.Author.Tests.{not-true, not-false, le-leb, lt-ltb, lt-leb, le-ltb}
-use lib.ListN.{length, getD, set, length-set}
+use borrow.Author.Tests.{not-true, not-false, le-leb, lt-ltb}
+use lib.Arith.{digits-lt}
+use lib.Dec.{eqb}
+use lib.ListN.{length, getD, set, replicate, length-replicate, getD-replicate}
 use lib.Seq.{getD-set-same, getD-set-other}
-use lib.IntN.{ℤ, pos, negsuc, negℤ}
-use Rattle.rules.specs.Tests.{every, any, least}
-use Rattle.rules.specs.Surface.{rect, covers, slots, rectOf, freeSlot, usedSlot, holds, cell, remaining, modulesApart, slotsSound}
+use lib.IntN.{ℤ, pos, negℤ}
+use Rattle.rules.specs.Tests.{every, any, total, count, least}
+use Rattle.rules.specs.Surface.{covers, slots, idOf, rectOf, freeSlot, usedSlot, soundSlot, holds, cell, remaining, modulesApart}
 use Rattle.rules.specs.declared.Rect.{Rect}
-use Rattle.rules.proofs.Tests.{and-left, and-right, and-both, four-and, fails, not-both, decide, every-at, every-yes, every-no, every-fails, any-at, any-yes, any-none, none-any, least-is, Least}
+use Rattle.rules.proofs.Tests.{and-left, and-right, and-both, four-and, or-left, or-right, fails, not-both, decide, every-at, every-yes, every-no, every-fails, any-at, any-yes, any-none, any-same, least-is, Least}
 use Rattle.meaning.proofs.Bound.{lt-or-le}
-use Rattle.meaning.proofs.Weights.{covers-within, Within, holds-covers, holds-used}
+use Rattle.meaning.proofs.Weights.{covers-within, Within, holds-covers}
 use Rattle.cells.specs.Weight.{takenZ, untaken}
-use Rattle.surface.specs.Marks.{RowMarked, Marked, markOf, MarkedTo, Markable, SlotMarked, AllMarked}
-use Rattle.surface.proofs.SlotLaws.{Sound, free-or-sound}
-
--- ---- a row of marks
-
-pub row-none : (s : List ℤ) (at n : ℕ) → RowMarked s s at n 0
-row-none s at n = record { long = refl; inside = λ k h. absurd (omega arith); before = λ k h. refl; after = λ k h. refl }
-
-pub row-more : (s₀ s t : List ℤ) (at n i : ℕ) → RowMarked s₀ s at n i → at + i < length s → t ≡ set s (at + i) (negℤ (pos (n - i))) → RowMarked s₀ t at n (i + 1)
-row-more s₀ s t at n i r lt e =
-    record {
-      long = ap length e ∙ length-set s (at + i) v ∙ r .long;
-      inside = below-more _ i (λ k h. other (at + k) (λ q. omega arith) ∙ r .inside k h) (ap (λ l. getD l (at + i) (pos 0)) e ∙ getD-set-same s (at + i) v (pos 0) lt);
-      before = λ k h. other k (λ q. omega arith) ∙ r .before k h;
-      after = λ k h. other k (λ q. omega arith) ∙ r .after k (omega arith);
-    }
-  where
-    v : ℤ
-    v = negℤ (pos (n - i))
-
-    other : (k : ℕ) → (k ≡ at + i → ⊥) → getD t k (pos 0) ≡ getD s k (pos 0)
-    other k ne = ap (λ l. getD l k (pos 0)) e ∙ getD-set-other s (at + i) k v (pos 0) ne
+use Rattle.surface.specs.Rows.{RowWritten}
+use Rattle.surface.specs.Slots.{Gathered, tableStands}
+use Rattle.surface.specs.Marks.{Marked, markOf, MarkedTo, hasId, TakenTo, Takeable}
+use Rattle.surface.proofs.SlotLaws.{Sound, read-rect, means-sound, any-hit, any-miss, count-hit, count-miss, count-mono, falls-alike, falls-shared, table-stands}
 
 -- ---- a rectangle of marks
 
 -- a cell of an earlier row comes before a later row's start
-pub row-before : (W r q c x : ℕ) → r < q → c < W → r * W + c < q * W + x
+row-before : (W r q c x : ℕ) → r < q → c < W → r * W + c < q * W + x
 row-before W r q c x h l = let m : (r + 1) * W ≤ q * W = mul-le-mul-right W (omega arith) in omega (arith, add-mul r 1 W)
 
 pub rect-none : (W : ℕ) (s : List ℤ) (x y n : ℕ) → Marked W s s x y n 0
@@ -57,7 +40,7 @@ rect-none W s x y n = record {
   below = λ c r a b. refl;
 }
 
-pub rect-more : (W : ℕ) (s₀ s t : List ℤ) (x y n j : ℕ) → x + n ≤ W → Marked W s₀ s x y n j → RowMarked s t ((y + j) * W + x) n n → Marked W s₀ t x y n (j + 1)
+pub rect-more : (W : ℕ) (s₀ s t : List ℤ) (x y n j : ℕ) → x + n ≤ W → Marked W s₀ s x y n j → RowWritten s t ((y + j) * W + x) n (λ k. negℤ (pos (n - k))) → Marked W s₀ t x y n (j + 1)
 rect-more W s₀ s t x y n j on m r = record {
   long = r .long ∙ m .long;
   inside = λ c q a b d e.
@@ -123,16 +106,16 @@ mark-taken t n x y e =
     let i = covers-within r x y (holds-covers t x y k (l .here (omega arith))) in
     rw e (neg-taken (r .x + r .w - x) (omega (arith, i .right)))
 
-pub mark-open : (t : List ℕ) (n x y : ℕ) → any n (holds t x y) ≡ false → markOf t n x y ≡ pos 0
+pub mark-open : (t : List ℕ) (n x y : ℕ) → any n (holds t x y) ≡ false → markOf t n x y ≡ pos 1
 unfolding markOf
 mark-open t n x y e = rw e
 
-pub taken-any : (t : List ℕ) (n x y : ℕ) → takenZ (markOf t n x y) ≡ true → any n (holds t x y) ≡ true
+taken-any : (t : List ℕ) (n x y : ℕ) → takenZ (markOf t n x y) ≡ true → any n (holds t x y) ≡ true
 taken-any t n x y e =
     ⊎-elim (λ (p : any n (holds t x y) ≡ true). p) (λ (p : any n (holds t x y) ≡ false). not-both _ e (ap takenZ (mark-open t n x y p))) (decide (any n (holds t x y)))
 
-pub open-any : (t : List ℕ) (n x y : ℕ) → takenZ (markOf t n x y) ≡ false → any n (holds t x y) ≡ false
-open-any t n x y e = fails (any n (holds t x y)) (λ p. mathlib.Core.Bool.true≢false (sym (mark-taken t n x y p) ∙ e))
+open-any : (t : List ℕ) (n x y : ℕ) → takenZ (markOf t n x y) ≡ false → any n (holds t x y) ≡ false
+open-any t n x y e = fails (any n (holds t x y)) (λ p. true≢false (sym (mark-taken t n x y p) ∙ e))
 
 -- the least is one number, whoever finds it
 least-one : {a n : ℕ} {p : ℕ → Bool} {j k : ℕ} → Least a n p j → Least a n p k → k < a + n → j ≡ k
@@ -142,19 +125,16 @@ least-one {a} {n} {p} {j} {k} u v h =
     (λ (z : k ≤ j). ⊎-elim (λ (w : k ≡ j). sym w) (λ (w : k < j). not-both (p k) (v .here h) (u .before k (v .from) w)) (eq-or-lt-of-le z))
     (lt-or-le j k)
 
-any-more : (n : ℕ) (p : ℕ → Bool) → p n ≡ false → any (n + 1) p ≡ any n p
-any-more n p e = Rattle.surface.proofs.SlotLaws.any-miss n p e
-
 -- slot n does not have the cell: its mark stays
-pub mark-stays : (t : List ℕ) (n x y : ℕ) → holds t x y n ≡ false → markOf t (n + 1) x y ≡ markOf t n x y
+mark-stays : (t : List ℕ) (n x y : ℕ) → holds t x y n ≡ false → markOf t (n + 1) x y ≡ markOf t n x y
 unfolding markOf
 mark-stays t n x y e = go (any n (holds t x y)) refl
   where
     p : ℕ → Bool
     p = holds t x y
 
-    go : (b : Bool) → any n p ≡ b → cond (any (n + 1) p) (remaining t (least (n + 1) p) x) (pos 0) ≡ cond (any n p) (remaining t (least n p) x) (pos 0)
-    go false q = rw (any-more n p e, q)
+    go : (b : Bool) → any n p ≡ b → cond (any (n + 1) p) (remaining t (least (n + 1) p) x) (pos 1) ≡ cond (any n p) (remaining t (least n p) x) (pos 1)
+    go false q = rw (any-miss n p e, q)
     go true q =
         let l = least-is n p in
         let m = least-is (n + 1) p in
@@ -166,10 +146,10 @@ mark-stays t n x y e = go (any n (holds t x y)) refl
         (lt-or-le (least n p) n) in
         let v : Least 0 (n + 1) p (least n p) = record { from = omega arith; upto = omega arith; before = l .before; here = λ z. l .here (omega arith) } in
         let s : least (n + 1) p ≡ least n p = least-one m v (omega arith) in
-        rw (any-more n p e, q) (ap (λ k. remaining t k x) s)
+        rw (any-miss n p e, q) (ap (λ k. remaining t k x) s)
 
 -- slot n is the first that has the cell: its number is the mark
-pub mark-new : (t : List ℕ) (n x y : ℕ) → holds t x y n ≡ true → any n (holds t x y) ≡ false → markOf t (n + 1) x y ≡ remaining t n x
+mark-new : (t : List ℕ) (n x y : ℕ) → holds t x y n ≡ true → any n (holds t x y) ≡ false → markOf t (n + 1) x y ≡ remaining t n x
 unfolding markOf
 mark-new t n x y e q =
     let p = holds t x y in
@@ -248,23 +228,16 @@ which r x y =
     (lt-or-le x (r .x + r .w)))
     (lt-or-le x (r .x))
 
--- two facts about each number below n + 1
-below-last : (P : ℕ → Type 0) (n : ℕ) → ((j : ℕ) → j < n → P j) → P n → (j : ℕ) → j < n + 1 → P j
-below-last P n f p = below-more P n f p
-
-module _ (W H : ℕ) (t : List ℕ) (n : ℕ) (m : List ℤ) (k : Markable W H t n m) where
-  pub slot-skip : freeSlot t n ≡ true → MarkedTo W H t (n + 1) m
+module _ (W H : ℕ) (t : List ℕ) (n : ℕ) (m : List ℤ) (d : MarkedTo W H t n m) where
+  slot-skip : freeSlot t n ≡ true → MarkedTo W H t (n + 1) m
   slot-skip e = record {
-    long = k .marked .long;
-    cells = λ x y a b. k .marked .cells x y a b ∙ sym (mark-stays t n x y (free-holds t n x y e));
-    apart = λ x y a b. below-last (λ j. (i : ℕ) → i < j → (holds t x y i && holds t x y j) ≡ false) n (k .marked .apart x y a b)
+    long = d .long;
+    cells = λ x y a b. d .cells x y a b ∙ sym (mark-stays t n x y (free-holds t n x y e));
+    apart = λ x y a b. below-more (λ j. (i : ℕ) → i < j → (holds t x y i && holds t x y j) ≡ false) n (d .apart x y a b)
         (λ i l. let h = free-holds t n x y e in fails _ (λ q. not-both (holds t x y n) (and-right (holds t x y i) (holds t x y n) q) h));
   }
 
   module _ (e : freeSlot t n ≡ false) where
-    pub slot-sound : Sound W H t n
-    slot-sound = ⊎-elim (λ p. not-both (freeSlot t n) p e) (λ s. s) (free-or-sound W H t (k .sound) n (k .low))
-
     -- where the module is, its slot's mark is asked for; where it isn't, the old
     inside-holds : (x y : ℕ) → Within (rectOf t n) x y → holds t x y n ≡ true
     inside-holds x y w = used-holds t n x y e ∙ cover (rectOf t n) x y w
@@ -273,56 +246,181 @@ module _ (W H : ℕ) (t : List ℕ) (n : ℕ) (m : List ℤ) (k : Markable W H t
     outside-holds x y f = used-holds t n x y e ∙ fails _ (λ q. f (covers-within (rectOf t n) x y q))
 
     -- A MODULE THAT SHARES NO CELL WITH THE EARLIER ONES IS MARKED
-    pub slot-new : (m′ : List ℤ) → untaken W m (rectOf t n .x) (rectOf t n .y) (rectOf t n .w) (rectOf t n .h) ≡ true →
+    slot-new : (m′ : List ℤ) → untaken W m (rectOf t n .x) (rectOf t n .y) (rectOf t n .w) (rectOf t n .h) ≡ true →
         Marked W m m′ (rectOf t n .x) (rectOf t n .y) (rectOf t n .w) (rectOf t n .h) → MarkedTo W H t (n + 1) m′
-    slot-new m′ u d = record {
-      long = d .long ∙ k .marked .long;
+    slot-new m′ u w = record {
+      long = w .long ∙ d .long;
       cells = λ x y a b. here x y a b (which r x y);
-      apart = λ x y a b. below-last (λ j. (i : ℕ) → i < j → (holds t x y i && holds t x y j) ≡ false) n (k .marked .apart x y a b)
+      apart = λ x y a b. below-more (λ j. (i : ℕ) → i < j → (holds t x y i && holds t x y j) ≡ false) n (d .apart x y a b)
           (λ i l. fails _ (λ q.
-          let w = covers-within r x y (holds-covers t x y n (and-right (holds t x y i) (holds t x y n) q)) in
-          mathlib.Core.Bool.true≢false (sym (any-yes n (holds t x y) i l (and-left (holds t x y i) (holds t x y n) q)) ∙ nobody x y a b w)));
+          let c = covers-within r x y (holds-covers t x y n (and-right (holds t x y i) (holds t x y n) q)) in
+          true≢false (sym (any-yes n (holds t x y) i l (and-left (holds t x y i) (holds t x y n) q)) ∙ nobody x y a b c)));
     }
       where
         r : Rect
         r = rectOf t n
 
         nobody : (x y : ℕ) → x < W → y < H → Within r x y → any n (holds t x y) ≡ false
-        nobody x y a b w = open-any t n x y (ap takenZ (sym (k .marked .cells x y a b)) ∙ untaken-at W m r u x y w)
+        nobody x y a b w = open-any t n x y (ap takenZ (sym (d .cells x y a b)) ∙ untaken-at W m r u x y w)
 
         old : (x y : ℕ) → x < W → y < H → (Within r x y → ⊥) → cell W m′ x y ≡ cell W m x y → cell W m′ x y ≡ markOf t (n + 1) x y
-        old x y a b f q = q ∙ k .marked .cells x y a b ∙ sym (mark-stays t n x y (outside-holds x y f))
+        old x y a b f q = q ∙ d .cells x y a b ∙ sym (mark-stays t n x y (outside-holds x y f))
 
         here : (x y : ℕ) → x < W → y < H → Within r x y ⊎ (((x < r .x) ⊎ (r .x + r .w ≤ x)) ⊎ ((y < r .y) ⊎ (r .y + r .h ≤ y))) → cell W m′ x y ≡ markOf t (n + 1) x y
-        here x y a b (inl w) =
-            d .inside x y (w .left) (w .right) (w .top) (w .bottom) ∙ number ∙ sym (mark-new t n x y (inside-holds x y w) (nobody x y a b w))
+        here x y a b (inl c) =
+            w .inside x y (c .left) (c .right) (c .top) (c .bottom) ∙ number ∙ sym (mark-new t n x y (inside-holds x y c) (nobody x y a b c))
           where
             number : negℤ (pos (r .x + r .w - x)) ≡ remaining t n x
             number = unfold remaining in refl
-        here x y a b (inr (inl z)) = old x y a b (λ w. beside x y w z) (d .beside x y a z)
+        here x y a b (inr (inl z)) = old x y a b (λ c. beside x y c z) (w .beside x y a z)
           where
             beside : (x y : ℕ) → Within r x y → (x < r .x) ⊎ (r .x + r .w ≤ x) → ⊥
-            beside x y w (inl l) = omega (arith, w .left)
-            beside x y w (inr l) = omega (arith, w .right)
-        here x y a b (inr (inr (inl z))) = old x y a b (λ w. omega (arith, w .top)) (d .above x y a z)
-        here x y a b (inr (inr (inr z))) = old x y a b (λ w. omega (arith, w .bottom)) (d .below x y a z)
+            beside x y c (inl l) = omega (arith, c .left)
+            beside x y c (inr l) = omega (arith, c .right)
+        here x y a b (inr (inr (inl z))) = old x y a b (λ c. omega (arith, c .top)) (w .above x y a z)
+        here x y a b (inr (inr (inr z))) = old x y a b (λ c. omega (arith, c .bottom)) (w .below x y a z)
 
     -- A MODULE ONE OF WHOSE CELLS IS MARKED SHARES IT
-    pub slot-shared : untaken W m (rectOf t n .x) (rectOf t n .y) (rectOf t n .w) (rectOf t n .h) ≡ false → modulesApart W H t ≡ false
+    slot-shared : n < slots t → Sound W H t n → untaken W m (rectOf t n .x) (rectOf t n .y) (rectOf t n .w) (rectOf t n .h) ≡ false → modulesApart W H t ≡ false
     unfolding modulesApart
-    slot-shared u =
+    slot-shared l s u =
         let c = taken-in W m (rectOf t n) u in
-        let s = slot-sound in
         let a : c .x < W = omega (arith, c .within .right, s .columns) in
         let b : c .y < H = omega (arith, c .within .bottom, s .lines) in
-        let w = any-at n (holds t (c .x) (c .y)) (taken-any t n (c .x) (c .y) (ap takenZ (sym (k .marked .cells (c .x) (c .y) a b)) ∙ c .taken)) in
+        let w = any-at n (holds t (c .x) (c .y)) (taken-any t n (c .x) (c .y) (ap takenZ (sym (d .cells (c .x) (c .y) a b)) ∙ c .taken)) in
         every-no H _ (c .y) b
         (every-no W _ (c .x) a
-        (every-no (slots t) _ n (k .low)
+        (every-no (slots t) _ n l
         (every-no n _ (w .0) (w .1)
         (ap not (and-both (w .2) (inside-holds (c .x) (c .y) (c .within)))))))
 
-pub all-apart : (W H : ℕ) (t : List ℕ) (m : List ℤ) → MarkedTo W H t (slots t) m → modulesApart W H t ≡ true
+all-apart : (W H : ℕ) (t : List ℕ) (m : List ℤ) → MarkedTo W H t (slots t) m → modulesApart W H t ≡ true
 unfolding modulesApart
 all-apart W H t m d =
     every-yes H _ (λ y b. every-yes W _ (λ x a. every-yes (slots t) _ (λ j l. every-yes j _ (λ i q. ap not (d .apart x y a b j l i q)))))
+
+-- ---- the slots taken in turn
+
+-- nothing is marked yet
+blank : (W H : ℕ) (t : List ℕ) (m : List ℤ) → m ≡ replicate (W * H) (pos 1) → MarkedTo W H t 0 m
+unfolding any
+blank W H t m e = record {
+  long = ap length e ∙ length-replicate (W * H) (pos 1);
+  cells = λ x y a b.
+      ap (λ l. cell W l x y) e ∙ getD-replicate (W * H) (y * W + x) (pos 1) (pos 0) (let d = digits-lt b a in omega (arith, mul-comm W H)) ∙ sym (mark-open t 0 x y refl);
+  apart = λ x y a b j h. absurd (omega arith);
+}
+
+pub take-none : (W H : ℕ) (t ids : List ℕ) (m : List ℤ) → m ≡ replicate (W * H) (pos 1) → TakenTo W H t 0 ids 0 m
+unfolding any total
+take-none W H t ids m e = record {
+  many = refl;
+  sound = λ j h. absurd (omega arith);
+  differ = λ j h. absurd (omega arith);
+  noted = λ id. refl;
+  marked = blank W H t m e;
+}
+
+-- taken as far as slot `at`
+pub record Reached (W H : ℕ) (t ids : List ℕ) (n : ℕ) (m : List ℤ) : Type 0 where
+  pub at : ℕ
+  pub low : at ≤ slots t
+  pub taken : TakenTo W H t at ids n m
+
+module _ (W H : ℕ) (t : List ℕ) where
+  -- a free slot is passed over
+  take-skip : (i : ℕ) (ids : List ℕ) (n : ℕ) (m : List ℤ) → TakenTo W H t i ids n m → usedSlot t i ≡ false → TakenTo W H t (i + 1) ids n m
+  take-skip i ids n m k e =
+      let f = not-false (freeSlot t i) e in
+      record {
+        many = k .many ∙ sym (count-miss i (usedSlot t) e);
+        sound = below-more _ i (k .sound) (or-left (freeSlot t i) (soundSlot W H t i) f);
+        differ = below-more (λ j. usedSlot t j ≡ true → any j (hasId t (idOf t j)) ≡ false) i (k .differ) (λ u. not-both (usedSlot t i) u e);
+        noted = λ id. k .noted id ∙ sym (any-miss i (hasId t id) (rw e));
+        marked = slot-skip W H t i m (k .marked) f;
+      }
+
+  -- the used slot i, whose id and rectangle were read
+  module _ (i : ℕ) (ids : List ℕ) (n : ℕ) (m : List ℤ) (a : Takeable W H t i ids n m) (id : ℕ) (r : Rect) (p : id ≡ idOf t i) (q : r ≡ rectOf t i) where
+    used-is : freeSlot t i ≡ false
+    used-is = not-true (freeSlot t i) (a .used)
+
+    pub take-alike : any n (λ k. eqb (getD ids k 0) id) ≡ true → tableStands W H t ≡ false
+    take-alike e = falls-alike W H t i (a .low) (a .used) (ap (λ c. any i (hasId t c)) (sym p) ∙ sym (a .taken .noted id) ∙ e)
+
+    module _ (s : Sound W H t i) where
+      -- its module lies on the surface
+      pub take-on : (r .x + r .w ≤ W) × ((r .y + r .h) * W ≤ length m)
+      take-on =
+          let e = read-rect q in
+          let l : (r .y + r .h) * W ≤ H * W = mul-le-mul-right W (omega (arith, e, s .lines)) in
+          (omega (arith, e, s .columns), omega (arith, mul-comm W H, a .taken .marked .long))
+
+      pub take-shared : untaken W m (r .x) (r .y) (r .w) (r .h) ≡ false → tableStands W H t ≡ false
+      take-shared e =
+          falls-shared W H t (slot-shared W H t i m (a .taken .marked) used-is (a .low) s
+          (ap (λ (r : Rect). untaken W m (r .x) (r .y) (r .w) (r .h)) (sym q) ∙ e))
+
+      -- A USED SLOT THAT IS SOUND, WITH A NEW ID AND CELLS OF ITS OWN, IS TAKEN
+      pub take-more : any n (λ k. eqb (getD ids k 0) id) ≡ false → untaken W m (r .x) (r .y) (r .w) (r .h) ≡ true →
+          (m′ : List ℤ) → Marked W m m′ (r .x) (r .y) (r .w) (r .h) → TakenTo W H t (i + 1) (set ids n id) (n + 1) m′
+      take-more new u m′ w =
+          let k = a .taken in
+          record {
+            many = ap (λ c. c + 1) (k .many) ∙ sym (count-hit i (usedSlot t) (a .used));
+            sound = below-more _ i (k .sound) (or-right (freeSlot t i) (soundSlot W H t i) (means-sound W H t i s));
+            differ = below-more (λ j. usedSlot t j ≡ true → any j (hasId t (idOf t j)) ≡ false) i (k .differ) (λ v. ap (λ c. any i (hasId t c)) (sym p) ∙ sym (k .noted id) ∙ new);
+            noted = noted;
+            marked = slot-new W H t i m (k .marked) used-is m′ (ap (λ (r : Rect). untaken W m (r .x) (r .y) (r .w) (r .h)) (sym q) ∙ u)
+                (subst (λ (r : Rect). Marked W m m′ (r .x) (r .y) (r .w) (r .h)) q w);
+          }
+        where
+          -- the ids there were are found as before
+          old : (c : ℕ) → any n (λ k. eqb (getD (set ids n id) k 0) c) ≡ any i (hasId t c)
+          old c = any-same n _ _ (λ k h. ap (λ v. eqb v c) (getD-set-other ids n k id 0 (λ z. omega arith))) ∙ a .taken .noted c
+
+          new-is : (c : ℕ) → eqb (getD (set ids n id) n 0) c ≡ hasId t c i
+          new-is c = ap (λ v. eqb v c) (getD-set-same ids n id 0 (a .room) ∙ p) ∙ sym (rw (a .used))
+
+          noted : (c : ℕ) → any (n + 1) (λ k. eqb (getD (set ids n id) k 0) c) ≡ any (i + 1) (hasId t c)
+          noted c =
+              ⊎-elim
+              (λ (h : hasId t c i ≡ true). any-hit n _ (new-is c ∙ h) ∙ sym (any-hit i (hasId t c) h))
+              (λ (h : hasId t c i ≡ false). any-miss n _ (new-is c ∙ h) ∙ old c ∙ sym (any-miss i (hasId t c) h))
+              (decide (hasId t c i))
+
+  -- as far as the next used slot, or the end
+  module _ (ids : List ℕ) (n : ℕ) (m : List ℤ) where
+    far : (i d : ℕ) → TakenTo W H t i ids n m → count (i + d) (usedSlot t) ≡ n → TakenTo W H t (i + d) ids n m
+    far i zero k e = subst (λ j. TakenTo W H t j ids n m) (let q : i ≡ i + 0 = omega arith in q) k
+    far i (suc d) k e =
+        let q : i + suc d ≡ i + d + 1 = omega arith in
+        let low = count-mono i (i + d) (usedSlot t) (omega arith) in
+        let high = count-mono (i + d) (i + suc d) (usedSlot t) (omega arith) in
+        let same : count (i + d) (usedSlot t) ≡ n = omega (arith, k .many) in
+        let free : usedSlot t (i + d) ≡ false = fails _ (λ u. let h = count-hit (i + d) (usedSlot t) u in let z : count (i + d + 1) (usedSlot t) ≡ n = ap (λ j. count j (usedSlot t)) (sym q) ∙ e in omega arith) in
+        subst (λ j. TakenTo W H t j ids n m) (sym q) (take-skip (i + d) ids n m (far i d k same) free)
+
+    reach : (i j : ℕ) → i ≤ j → TakenTo W H t i ids n m → count j (usedSlot t) ≡ n → TakenTo W H t j ids n m
+    reach i j l k e =
+        let q : i + (j - i) ≡ j = omega arith in
+        subst (λ j. TakenTo W H t j ids n m) q (far i (j - i) k (ap (λ j. count j (usedSlot t)) q ∙ e))
+
+    pub take-next : (u : List ℕ) (c : ℕ) → Gathered t u (slots t) c → n < c → Reached W H t ids n m → TakenTo W H t (getD u n 0) ids n m
+    take-next u c g h d =
+        let i = d .at in
+        let k = d .taken in
+        let j = getD u n 0 in
+        let b = g .before n h in
+        let on : i ≤ j =
+        ⊎-elim
+        (λ (l : j < i). let x = count-hit j (usedSlot t) (g .used n h) in let y = count-mono (j + 1) i (usedSlot t) (omega arith) in absurd (omega (arith, k .many)))
+        (λ (l : i ≤ j). l)
+        (lt-or-le j i) in
+        reach i j on k b
+
+    pub take-last : count (slots t) (usedSlot t) ≡ n → Reached W H t ids n m → TakenTo W H t (slots t) ids n m
+    take-last e d = reach (d .at) (slots t) (d .low) (d .taken) e
+
+  pub take-all : (ids : List ℕ) (n : ℕ) (m : List ℤ) → TakenTo W H t (slots t) ids n m → tableStands W H t ≡ true
+  take-all ids n m k = table-stands W H t (k .sound) (k .differ) (all-apart W H t m (k .marked))

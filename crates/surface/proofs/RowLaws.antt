@@ -1,46 +1,49 @@
--- Laws of rows of weights. Assumes nothing.
+-- Laws of rows of weights: written by a loop, counted on from the marks. Assumes nothing.
 use mathlib.Core.Path.{_≡_, refl, sym, ap, ap₂, _∙_, subst}
-use mathlib.Core.Bool.{Bool, true, false, not, cond, _&&_}
-use mathlib.Core.Logic.{_⊎_, inl, inr, ⊎-elim}
+use mathlib.Core.Bool.{true, false, false≢true}
+use mathlib.Core.Logic.{⊎-elim}
 use mathlib.Core.List.{List}
 use Prim.Native.Nat.{ℕ, zero, suc, _+_, _-_, _*_, _≤_, _<_}
-use native.Mathlib.Nat.{suc-mul, mul-le-mul-right, add-mul, mul-comm}
-use native.Mathlib.Numerals.{add-one}
+use native.Mathlib.Nat.{suc-mul, eq-or-lt-of-le, mul-le-mul-right, add-mul, mul-comm}
 use native.Mathlib.Omega.{arith}
-use borrow.Author.Tests.{eqb-true, eq-eqb, ltb-true, lt-ltb, le-ltb}
-use lib.Dec.{T, eqb, ltb}
+use borrow.Author.Count.{below-more}
+use lib.Dec.{T}
 use lib.IntN.{ℤ, pos, negsuc, _+ℤ_, pos-+ℤ-pos}
-use lib.ListN.{length, getD}
+use lib.ListN.{length, getD, set, length-set}
+use lib.Seq.{getD-set-same, getD-set-other}
 use lib.Signed.{ltZ}
-use mir.Syntax.{Width, w16, w32}
-use mir.Val.{toZ, ofZ, SFits}
-use mir.ValLaws.{toZ-ofZ}
-use Rattle.rules.specs.Tests.{every, eqZ}
-use Rattle.rules.specs.Surface.{slots, cell, occupied, holder, upwards, weight, weightsRight}
-use Rattle.rules.proofs.Tests.{fails, not-both, decide, every-at, every-yes, every-no, eqZ-true, eqZ-same}
-use Rattle.meaning.proofs.Weights.{weight-occupied, weight-empty, upwards-taken}
+use Rattle.rules.specs.Surface.{slots, cell, occupied, holder, upwards, weight, fresh}
+use Rattle.rules.proofs.Tests.{decide}
+use Rattle.meaning.proofs.Weights.{weight-occupied, weight-empty, upwards-taken, fresh-of}
 use Rattle.cells.specs.Weight.{takenZ, countOf}
+use Rattle.surface.specs.Rows.{RowWritten, countedOn, countedAt, CountedTo}
 use Rattle.surface.specs.Marks.{markOf, MarkedTo}
-use Rattle.surface.specs.Rows.{rightZ, aboveAt, rowRight, rowsRight}
 use Rattle.surface.proofs.MarkLaws.{mark-taken, mark-open}
 
--- two signed numbers are the same exactly when their bits are
-pub same-bits : (w : Width) (a b : ℤ) → SFits w a → SFits w b → eqb (ofZ w a) (ofZ w b) ≡ eqZ a b
-same-bits w a b f g =
-    ⊎-elim
-    (λ (e : eqb (ofZ w a) (ofZ w b) ≡ true).
-    let q : a ≡ b = sym (toZ-ofZ w a f) ∙ ap (toZ w) (eqb-true (ofZ w a) (ofZ w b) e) ∙ toZ-ofZ w b g in
-    e ∙ sym (ap (λ z. eqZ z b) q ∙ eqZ-same b))
-    (λ (e : eqb (ofZ w a) (ofZ w b) ≡ false).
-    e ∙ sym (fails (eqZ a b) (λ z. not-both (eqb (ofZ w a) (ofZ w b)) (eq-eqb (ofZ w a) (ofZ w b) (ap (ofZ w) (eqZ-true a b z))) e)))
-    (decide (eqb (ofZ w a) (ofZ w b)))
+-- ---- a row written
 
--- a number below 0 counts nothing
-pub count-below : (a : ℤ) → ltZ a (pos 0) ≡ true → countOf a ≡ 0
-count-below (pos n) e = absurd (let h : n < 0 = ltb-true n 0 e in omega arith)
-count-below (negsuc n) e = refl
+pub row-none : (s : List ℤ) (at : ℕ) (f : ℕ → ℤ) → RowWritten s s at 0 f
+row-none s at f = record { long = refl; inside = λ k h. absurd (omega arith); before = λ k h. refl; after = λ k h. refl }
 
--- one not below 0 is its count
+pub row-more : (s₀ s t : List ℤ) (at i : ℕ) (f : ℕ → ℤ) (v : ℤ) → RowWritten s₀ s at i f → at + i < length s → t ≡ set s (at + i) v → v ≡ f i → RowWritten s₀ t at (i + 1) f
+row-more s₀ s t at i f v r lt e q =
+    record {
+      long = ap length e ∙ length-set s (at + i) v ∙ r .long;
+      inside = below-more _ i (λ k h. other (at + k) (λ z. omega arith) ∙ r .inside k h) (ap (λ l. getD l (at + i) (pos 0)) e ∙ getD-set-same s (at + i) v (pos 0) lt ∙ q);
+      before = λ k h. other k (λ z. omega arith) ∙ r .before k h;
+      after = λ k h. other k (λ z. omega arith) ∙ r .after k (omega arith);
+    }
+  where
+    other : (k : ℕ) → (k ≡ at + i → ⊥) → getD t k (pos 0) ≡ getD s k (pos 0)
+    other k ne = ap (λ l. getD l k (pos 0)) e ∙ getD-set-other s (at + i) k v (pos 0) ne
+
+-- row y ends within the surface
+pub row-end : (w h y : ℕ) → y < h → y * w + w ≤ w * h
+row-end w h y lt = let m : (y + 1) * w ≤ h * w = mul-le-mul-right w (omega arith) in omega (arith, add-mul y 1 w, mul-comm w h)
+
+-- ---- one cell counted
+
+-- a number not below 0 is its count
 pub count-is : (a : ℤ) → ltZ a (pos 0) ≡ false → a ≡ pos (countOf a)
 count-is (pos n) e = refl
 count-is (negsuc n) e = absurd (subst T e tt)
@@ -48,35 +51,103 @@ count-is (negsuc n) e = absurd (subst T e tt)
 pub one-more : (n : ℕ) → pos n +ℤ pos 1 ≡ pos (suc n)
 one-more n = pos-+ℤ-pos n 1 ∙ ap pos (let q : n + 1 ≡ suc n = omega arith in q)
 
-pub fits-wider : {z : ℤ} → SFits w16 z → SFits w32 z
-fits-wider f = record { sfits = let h = f .sfits in omega arith }
+counted-marked : (m a : ℤ) → takenZ m ≡ true → countedOn m a ≡ m
+unfolding countedOn
+counted-marked m a e = rw e
 
-pub fits-count : (a : ℤ) → SFits w16 a → SFits w32 (pos (suc (countOf a)))
-fits-count (pos n) f = record { sfits = let h = f .sfits in omega arith }
-fits-count (negsuc n) f = record { sfits = omega arith }
+counted-open : (m a : ℤ) → takenZ m ≡ false → countedOn m a ≡ pos (suc (countOf a))
+unfolding countedOn
+counted-open m a e = rw e
 
--- ---- one cell
+counted-twice : (m a : ℤ) → countedOn (countedOn m a) a ≡ countedOn m a
+counted-twice m a =
+    ⊎-elim
+    (λ (e : takenZ m ≡ true). counted-marked (countedOn m a) a (ap takenZ (counted-marked m a e) ∙ e))
+    (λ (e : takenZ m ≡ false). counted-open (countedOn m a) a (ap takenZ (counted-open m a e)) ∙ sym (counted-open m a e))
+    (decide (takenZ m))
 
-pub right-marked : (v m a : ℤ) → takenZ m ≡ true → rightZ v m a ≡ eqZ v m
-unfolding rightZ
-right-marked v m a e = rw e
+taken-none : (z : ℤ) → takenZ z ≡ true → countOf z ≡ 0
+taken-none (pos n) e = absurd (false≢true e)
+taken-none (negsuc n) e = refl
 
-pub right-open : (v m a : ℤ) → takenZ m ≡ false → rightZ v m a ≡ eqZ v (pos (suc (countOf a)))
-unfolding rightZ
-right-open v m a e = rw e
+-- at most one more than above
+counted-le : (m a : ℤ) → countOf (countedOn m a) ≤ suc (countOf a)
+counted-le m a =
+    ⊎-elim
+    (λ (e : takenZ m ≡ true). let q = ap countOf (counted-marked m a e) ∙ taken-none m e in omega arith)
+    (λ (e : takenZ m ≡ false). let q = ap countOf (counted-open m a e) in omega arith)
+    (decide (takenZ m))
 
--- ---- one cell more
+-- no more than the rows so far
+at-most : (W : ℕ) (m : List ℤ) (x y : ℕ) → countOf (countedAt W m x y) ≤ suc y
+unfolding countedAt
+at-most W m x zero = counted-le (cell W m x 0) (pos 0)
+at-most W m x (suc y) = let b = at-most W m x y in let l = counted-le (cell W m x (suc y)) (countedAt W m x y) in omega arith
 
-pub every-hit : (n : ℕ) (p : ℕ → Bool) → p n ≡ true → every (n + 1) p ≡ every n p
-unfolding every
-every-hit n p e = rw (add-one n, e) (and-yes (every n p))
-  where
-    and-yes : (b : Bool) → (b && true) ≡ b
-    and-yes true = refl
-    and-yes false = refl
+-- ---- row after row
 
-pub every-miss : (n : ℕ) (p : ℕ → Bool) → p n ≡ false → every (n + 1) p ≡ false
-every-miss n p e = every-no (n + 1) p n (omega arith) e
+-- the cell above cell (x, y)
+up-cell : (W x y : ℕ) → suc y * W - W + x ≡ y * W + x
+up-cell W x y = omega (arith, suc-mul y W)
+
+-- the first row s₁ of the marks s₀ is counted
+module _ (W : ℕ) (s₀ s₁ : List ℤ) (r : RowWritten s₀ s₁ 0 W (λ x. countedOn (getD s₀ x (pos 0)) (pos 0))) where
+  first-cell : (x : ℕ) → x < W → cell W s₁ x 0 ≡ countedOn (cell W s₀ x 0) (pos 0)
+  first-cell x a =
+      let q : 0 * W + x ≡ 0 + x = omega arith in
+      let p : 0 * W + x ≡ x = omega arith in
+      ap (λ k. getD s₁ k (pos 0)) q ∙ r .inside x a ∙ ap (λ k. countedOn (getD s₀ k (pos 0)) (pos 0)) (sym p)
+
+  -- counted once more it stays
+  again : (x : ℕ) → x < W → countedOn (cell W s₁ x 0) (pos 0) ≡ cell W s₁ x 0
+  again x a = ap (λ z. countedOn z (pos 0)) (first-cell x a) ∙ counted-twice (cell W s₀ x 0) (pos 0) ∙ sym (first-cell x a)
+
+  later : (x y : ℕ) → x < W → 1 ≤ y → cell W s₁ x y ≡ cell W s₀ x y
+  later x y a h = let m : 1 * W ≤ y * W = mul-le-mul-right W h in r .after (y * W + x) (omega arith)
+
+  pub counted-first : CountedTo W s₁ s₁ 1
+  unfolding countedAt
+  counted-first = record {
+    long = refl;
+    counted = λ x y a b. let z : y ≡ 0 = omega arith in subst (λ y. cell W s₁ x y ≡ countedAt W s₁ x y) (sym z) (sym (again x a));
+    ahead = λ x y a b. refl;
+  }
+
+  -- so the rows come to the same from s₁ as from s₀
+  since : (x y : ℕ) → x < W → countedAt W s₁ x y ≡ countedAt W s₀ x y
+  unfolding countedAt
+  since x zero a = again x a ∙ first-cell x a
+  since x (suc y) a = ap₂ countedOn (later x (suc y) a (omega arith)) (since x y a)
+
+  pub counted-since : (s : List ℤ) (n : ℕ) → 1 ≤ n → CountedTo W s₁ s n → CountedTo W s₀ s n
+  counted-since s n h d = record {
+    long = d .long ∙ r .long;
+    counted = λ x y a b. d .counted x y a b ∙ since x y a;
+    ahead = λ x y a b. d .ahead x y a b ∙ later x y a (omega arith);
+  }
+
+module _ (W : ℕ) (s₀ s : List ℤ) where
+  -- the row above holds counts that are small
+  pub above-few : (y : ℕ) → 1 ≤ y → CountedTo W s₀ s y → (x : ℕ) → x < W → countOf (getD s (y * W - W + x) (pos 0)) ≤ y
+  above-few zero h d x a = absurd (omega arith)
+  above-few (suc y) h d x a = subst (λ z. countOf z ≤ suc y) (sym (ap (λ k. getD s k (pos 0)) (up-cell W x y) ∙ d .counted x y a (omega arith))) (at-most W s₀ x y)
+
+  -- the row counted on from the row above
+  next-cell : (y : ℕ) → 1 ≤ y → CountedTo W s₀ s y → (x : ℕ) → x < W → countedOn (getD s (y * W + x) (pos 0)) (getD s (y * W - W + x) (pos 0)) ≡ countedAt W s₀ x y
+  unfolding countedAt
+  next-cell zero h d x a = absurd (omega arith)
+  next-cell (suc y) h d x a = ap₂ countedOn (d .ahead x (suc y) a (omega arith)) (ap (λ k. getD s k (pos 0)) (up-cell W x y) ∙ d .counted x y a (omega arith))
+
+  pub counted-next : (y : ℕ) → 1 ≤ y → (u : List ℤ) → CountedTo W s₀ s y → RowWritten s u (y * W) W (λ x. countedOn (getD s (y * W + x) (pos 0)) (getD s (y * W - W + x) (pos 0))) → CountedTo W s₀ u (y + 1)
+  counted-next y h u d r = record {
+    long = r .long ∙ d .long;
+    counted = λ x z a b.
+        ⊎-elim
+        (λ (e : z ≡ y). subst (λ z. cell W u x z ≡ countedAt W s₀ x z) (sym e) (r .inside x a ∙ next-cell y h d x a))
+        (λ (l : z < y). r .before (z * W + x) (let m : (z + 1) * W ≤ y * W = mul-le-mul-right W (omega arith) in omega (arith, add-mul z 1 W)) ∙ d .counted x z a l)
+        (eq-or-lt-of-le (let q : z ≤ y = omega arith in q));
+    ahead = λ x z a b. r .after (z * W + x) (let m : (y + 1) * W ≤ z * W = mul-le-mul-right W b in omega (arith, add-mul y 1 W)) ∙ d .ahead x z a (omega arith);
+  }
 
 -- ---- the rows of a surface whose modules are marked
 
@@ -87,7 +158,7 @@ module _ (t : List ℕ) (x : ℕ) where
   aboveOf (suc y) = weight t x y
 
   -- an occupied cell counts nothing
-  pub count-weight : (y : ℕ) → countOf (weight t x y) ≡ upwards (occupied t) x y
+  count-weight : (y : ℕ) → countOf (weight t x y) ≡ upwards (occupied t) x y
   count-weight y =
       ⊎-elim
       (λ (e : occupied t x y ≡ true). ap countOf (weight-occupied t x y e .1) ∙ sym (upwards-taken (occupied t) x y e))
@@ -105,75 +176,21 @@ module _ (t : List ℕ) (x : ℕ) where
   unfolding markOf weight occupied holder
   mark-weight y e = rw e
 
-  -- a number is right exactly when it is the weight
-  right-is : (v : ℤ) (y : ℕ) → rightZ v (markOf t (slots t) x y) (aboveOf y) ≡ eqZ v (weight t x y)
+  -- counted on from the weight above, a mark comes to the weight
+  weight-is : (y : ℕ) → countedOn (markOf t (slots t) x y) (aboveOf y) ≡ weight t x y
   unfolding occupied
-  right-is v y =
+  weight-is y =
       ⊎-elim
-      (λ (e : occupied t x y ≡ true).
-      right-marked v (markOf t (slots t) x y) (aboveOf y) (mark-taken t (slots t) x y e) ∙ ap (eqZ v) (mark-weight y e))
-      (λ (e : occupied t x y ≡ false).
-      right-open v (markOf t (slots t) x y) (aboveOf y) (ap takenZ (mark-open t (slots t) x y e)) ∙ ap (eqZ v) (sym (next-weight y e)))
+      (λ (e : occupied t x y ≡ true). counted-marked (markOf t (slots t) x y) (aboveOf y) (mark-taken t (slots t) x y e) ∙ mark-weight y e)
+      (λ (e : occupied t x y ≡ false). counted-open (markOf t (slots t) x y) (aboveOf y) (ap takenZ (mark-open t (slots t) x y e)) ∙ sym (next-weight y e))
       (decide (occupied t x y))
 
-module _ (W H : ℕ) (s m : List ℤ) (t : List ℕ) (d : MarkedTo W H t (slots t) m) where
-  -- the weight above, as the list has it
-  above-cell : (x y : ℕ) → ℤ
-  above-cell x zero = pos 0
-  above-cell x (suc y) = cell W s x y
+module _ (W H : ℕ) (m s : List ℤ) (t : List ℕ) (d : MarkedTo W H t (slots t) m) where
+  counted-weight : (x y : ℕ) → x < W → y < H → countedAt W m x y ≡ weight t x y
+  unfolding countedAt aboveOf
+  counted-weight x zero a b = ap (λ z. countedOn z (pos 0)) (d .cells x 0 a b) ∙ weight-is t x 0
+  counted-weight x (suc y) a b = ap₂ countedOn (d .cells x (suc y) a b) (counted-weight x y a (omega arith)) ∙ weight-is t x (suc y)
 
-  above-is : (x y : ℕ) → x < W → aboveAt W s (y * W) x ≡ above-cell x y
-  unfolding above-cell
-  above-is x zero h = let q : 0 * W < W = omega arith in rw (lt-ltb (0 * W) W q)
-  above-is x (suc y) h =
-      let q : W ≤ suc y * W = omega (arith, suc-mul y W) in
-      let e : suc y * W - W + x ≡ y * W + x = omega (arith, suc-mul y W) in
-      rw (le-ltb (suc y * W) W q) (ap (λ k. getD s k (pos 0)) e)
-
-  abbrev rightCell : ℕ → ℕ → Bool
-  rightCell y x = rightZ (getD s (y * W + x) (pos 0)) (getD m (y * W + x) (pos 0)) (aboveAt W s (y * W) x)
-
-  -- where the cell above has the table's weight, this one is right exactly when it has it too
-  cell-right : (x y : ℕ) → x < W → y < H → above-cell x y ≡ aboveOf t x y → rightCell y x ≡ eqZ (cell W s x y) (weight t x y)
-  cell-right x y a b q =
-      ap (rightZ (cell W s x y) (cell W m x y)) (above-is x y a ∙ q)
-      ∙ ap (λ k. rightZ (cell W s x y) k (aboveOf t x y)) (d .cells x y a b)
-      ∙ right-is t x (cell W s x y) y
-
-  -- rows that are right have the table's weights
-  rows-weights : rowsRight W H s m ≡ true → (y : ℕ) → y < H → (x : ℕ) → x < W → cell W s x y ≡ weight t x y
-  unfolding rowsRight rowRight above-cell aboveOf
-  rows-weights e y b x a = eqZ-true _ _ (sym (cell-right x y a b (up y b)) ∙ right)
-    where
-      right : rightCell y x ≡ true
-      right = every-at W (rightCell y) (every-at H (λ y. every W (rightCell y)) e y b) x a
-
-      up : (y : ℕ) → y < H → above-cell x y ≡ aboveOf t x y
-      up zero h = refl
-      up (suc z) h = eqZ-true _ _ (sym (cell-right x z a (omega arith) (up z (omega arith))) ∙ every-at W (rightCell z) (every-at H (λ y. every W (rightCell y)) e z (omega arith)) x a)
-
-  -- ROWS ARE RIGHT EXACTLY WHEN EVERY WEIGHT IS
-  pub rows-right : rowsRight W H s m ≡ weightsRight W H s t
-  unfolding weightsRight rowsRight rowRight above-cell aboveOf
-  rows-right =
-      ⊎-elim
-      (λ (e : rowsRight W H s m ≡ true).
-      e ∙ sym (every-yes H _ (λ y b. every-yes W _ (λ x a. ap (λ z. eqZ z (weight t x y)) (rows-weights e y b x a) ∙ eqZ-same (weight t x y)))))
-      (λ (e : rowsRight W H s m ≡ false).
-      e ∙ sym (fails (weightsRight W H s t) (λ f.
-      let same : (y : ℕ) → y < H → (x : ℕ) → x < W → cell W s x y ≡ weight t x y =
-      λ y b x a. eqZ-true (cell W s x y) (weight t x y) (every-at W (λ x. eqZ (cell W s x y) (weight t x y)) (every-at H (λ y. every W (λ x. eqZ (cell W s x y) (weight t x y))) f y b) x a) in
-      not-both (rowsRight W H s m) (every-yes H (λ y. every W (rightCell y)) (λ y b. every-yes W (rightCell y) (λ x a.
-      cell-right x y a b (up same x a y b) ∙ ap (λ z. eqZ z (weight t x y)) (same y b x a) ∙ eqZ-same (weight t x y)))) e)))
-      (decide (rowsRight W H s m))
-    where
-      up : ((y : ℕ) → y < H → (x : ℕ) → x < W → cell W s x y ≡ weight t x y) → (x : ℕ) → x < W → (y : ℕ) → y < H → above-cell x y ≡ aboveOf t x y
-      up f x a zero b = refl
-      up f x a (suc y) b = f y (omega arith) x a
-
-pub right-same : {a b d a′ b′ d′ : ℤ} → a ≡ a′ → b ≡ b′ → d ≡ d′ → rightZ a b d ≡ rightZ a′ b′ d′
-right-same p q r = λ i. rightZ (p i) (q i) (r i)
-
--- row y ends within the surface
-pub row-end : (w h y : ℕ) → y < h → y * w + w ≤ w * h
-row-end w h y lt = let m : (y + 1) * w ≤ h * w = mul-le-mul-right w (omega arith) in omega (arith, add-mul y 1 w, mul-comm w h)
+  -- MARKED AND COUNTED, THE SCRATCH HOLDS THE WEIGHTS WORKED OUT AFRESH
+  pub counted-fresh : 1 ≤ W → CountedTo W m s H → s ≡ fresh W H t
+  counted-fresh w k = fresh-of W H t s w (k .long ∙ d .long) (λ x y a b. k .counted x y a b ∙ counted-weight x y a b)

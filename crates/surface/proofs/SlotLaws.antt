@@ -1,22 +1,28 @@
 -- What the tests of slots and ids tell. Assumes nothing.
-use mathlib.Core.Path.{_≡_, refl, sym, ap, ap₂, _∙_}
+use mathlib.Core.Path.{_≡_, refl, sym, ap, ap₂, _∙_, subst}
 use mathlib.Core.Bool.{Bool, true, false, not, cond, _&&_, _||_, true≢false}
-use mathlib.Core.Logic.{_⊎_, inl, inr, ⊎-elim}
+use mathlib.Core.Logic.{⊎-elim}
 use mathlib.Core.List.{List}
-use Prim.Native.Nat.{ℕ, zero, suc, _+_, _*_, _/_, _≤_, _<_}
-use native.Mathlib.Nat.{mul-le-mul}
+use Prim.Native.Nat.{ℕ, zero, suc, _+_, _*_, _≤_, _<_}
+use native.Mathlib.Nat.{eq-or-lt-of-le, mul-le-mul}
 use native.Mathlib.Numerals.{add-one}
 use native.Mathlib.Omega.{arith}
 use lib.Dec.{leb, ltb, eqb}
-use lib.ListN.{length, getD, set, length-set}
+use lib.ListN.{length, getD, set}
 use lib.Seq.{getD-set-same, getD-set-other}
 use borrow.Author.Count.{below-more}
-use borrow.Author.Tests.{leb-true, leb-false, le-leb, le-ltb, lt-ltb, eqb-true, eq-eqb, eqb-false, ne-eqb, not-true, not-false}
+use borrow.Author.Tests.{leb-true, leb-false, le-leb, le-ltb, lt-ltb, eqb-true, eq-eqb, not-true, not-false}
 use Rattle.rules.specs.Tests.{every, any, total, count, between}
 use Rattle.rules.specs.Calls.{badSize}
-use Rattle.rules.specs.Surface.{slots, byte, idOf, rectOf, spareZero, freeSlot, usedSlot, soundSlot, slotsSound, idsDiffer}
-use Rattle.rules.proofs.Tests.{and-left, and-right, and-both, or-which, or-neither, fails, not-both, decide, every-at, every-yes, every-no, any-at, any-yes, none-any, any-same, and-fails}
-use Rattle.table.proofs.Laws.{free-byte}
+use Rattle.rules.specs.Surface.{slots, byte, idOf, rectOf, spareZero, freeSlot, usedSlot, soundSlot, slotsSound, idsDiffer, modulesApart}
+use Rattle.rules.specs.declared.Rect.{Rect}
+use Rattle.rules.proofs.Tests.{and-left, and-right, and-both, or-neither, fails, not-both, decide, every-yes, every-no, any-at, any-yes}
+use Rattle.surface.specs.Slots.{Gathered, tableStands}
+use Rattle.surface.specs.Marks.{hasId}
+
+-- two used slots with the same id
+abbrev clash : List ℕ → ℕ → ℕ → Bool
+clash t j i = usedSlot t i && usedSlot t j && eqb (idOf t i) (idOf t j)
 
 -- ---- a sound slot
 
@@ -60,57 +66,12 @@ means-sound W H t i s =
     (and-both (and-both (and-both (and-both (le-leb _ _ (s .id)) (le-leb _ _ (s .wide))) (le-leb _ _ (s .tall))) (le-leb _ _ (s .columns))) (le-leb _ _ (s .lines)))
     (and-both (eq-eqb (byte t i 6) 0 (omega (arith, s .spare))) (eq-eqb (byte t i 7) 0 (omega (arith, s .spare))))
 
--- neither free nor sound
-pub unsound : (W H : ℕ) (t : List ℕ) (i : ℕ) → freeSlot t i ≡ false → (Sound W H t i → ⊥) → (freeSlot t i || soundSlot W H t i) ≡ false
-unsound W H t i e n = let s = fails (soundSlot W H t i) (λ q. n (sound-means W H t i q)) in rw (e, s)
+-- a rectangle that was read, side by side with its bytes
+pub read-rect : {r q : Rect} → r ≡ q → (r .x ≡ q .x) × (r .y ≡ q .y) × (r .w ≡ q .w) × (r .h ≡ q .h)
+read-rect e = (ap (λ (r : Rect). r .x) e, ap (λ (r : Rect). r .y) e, ap (λ (r : Rect). r .w) e, ap (λ (r : Rect). r .h) e)
 
-pub free-or-sound : (W H : ℕ) (t : List ℕ) → slotsSound W H t ≡ true → (i : ℕ) → i < slots t → (freeSlot t i ≡ true) ⊎ Sound W H t i
-unfolding slotsSound
-free-or-sound W H t e i h =
-    ⊎-elim (λ p. inl p) (λ p. inr (sound-means W H t i p))
-    (or-which (freeSlot t i) (soundSlot W H t i) (every-at (slots t) (λ i. freeSlot t i || soundSlot W H t i) e i h))
-
--- ---- ids: where slots are sound, a slot is used exactly when its id is not 0
-
-pub used-id : (W H : ℕ) (t : List ℕ) → slotsSound W H t ≡ true → (i : ℕ) → i < slots t → usedSlot t i ≡ true → 1 ≤ idOf t i
-used-id W H t e i h u =
-    ⊎-elim
-    (λ (p : freeSlot t i ≡ true). not-both (freeSlot t i) p (not-true _ u))
-    (λ (s : Sound W H t i). s .id)
-    (free-or-sound W H t e i h)
-
-pub id-used : (t : List ℕ) (i : ℕ) → 1 ≤ idOf t i → usedSlot t i ≡ true
-id-used t i h =
-    ap not (fails (freeSlot t i) (λ f.
-    let b0 = free-byte t i f 0 (omega arith) in
-    let b1 = free-byte t i f 1 (omega arith) in
-    omega arith))
-
-abbrev pub clash : List ℕ → ℕ → ℕ → Bool
-clash t j i = usedSlot t i && usedSlot t j && eqb (idOf t i) (idOf t j)
-
--- slot j clashes with none before it: it is free, or no earlier slot has its id
-pub no-clash : (W H : ℕ) (t : List ℕ) (j : ℕ) → slotsSound W H t ≡ true → j < slots t → (1 ≤ idOf t j → any j (λ k. eqb (idOf t k) (idOf t j)) ≡ false) → every j (λ i. not (clash t j i)) ≡ true
-no-clash W H t j e h n =
-    every-yes j (λ i. not (clash t j i)) (λ i l. ap not (fails (clash t j i) (λ c.
-    let u = and-right (usedSlot t i) (usedSlot t j) (and-left (usedSlot t i && usedSlot t j) _ c) in
-    let q = and-right (usedSlot t i && usedSlot t j) _ c in
-    true≢false (sym (any-yes j (λ k. eqb (idOf t k) (idOf t j)) i l q) ∙ n (used-id W H t e j h u)))))
-
--- slot j has an id that an earlier slot has too
-pub clashes : (t : List ℕ) (j : ℕ) → j < slots t → 1 ≤ idOf t j → any j (λ k. eqb (idOf t k) (idOf t j)) ≡ true → idsDiffer t ≡ false
-unfolding idsDiffer
-clashes t j h u a =
-    let w = any-at j (λ k. eqb (idOf t k) (idOf t j)) a in
-    let i = w .0 in
-    let same = eqb-true (idOf t i) (idOf t j) (w .2) in
-    every-no (slots t) (λ j. every j (λ i. not (clash t j i))) j h
-    (every-no j (λ i. not (clash t j i)) i (w .1)
-    (ap not (and-both (and-both (id-used t i (omega arith)) (id-used t j u)) (w .2))))
-
-pub ids-differ : (t : List ℕ) → ((j : ℕ) → j < slots t → every j (λ i. not (clash t j i)) ≡ true) → idsDiffer t ≡ true
-unfolding idsDiffer
-ids-differ t f = every-yes (slots t) (λ j. every j (λ i. not (clash t j i))) f
+pub unsound : (W H : ℕ) (t : List ℕ) (i : ℕ) → (Sound W H t i → ⊥) → soundSlot W H t i ≡ false
+unsound W H t i n = fails (soundSlot W H t i) (λ q. n (sound-means W H t i q))
 
 -- above a number, or not at most it
 pub over : (a n : ℕ) → ltb a n ≡ not (leb n a)
@@ -164,39 +125,77 @@ count-le (suc n) p = go (p n) (count-le n p)
     go true h = omega arith
     go false h = omega arith
 
--- ---- the walk over the ids: the first i stand side by side, and no two of them clash
+pub count-mono : (i j : ℕ) (p : ℕ → Bool) → i ≤ j → count i p ≤ count j p
+unfolding total
+count-mono i zero p h = let e : i ≡ 0 = omega arith in rw e (omega arith)
+count-mono i (suc j) p h =
+    ⊎-elim
+    (λ (e : i ≡ suc j). rw e (omega arith))
+    (λ (l : i < suc j). let c = count-mono i j p (omega arith) in omega arith)
+    (eq-or-lt-of-le h)
 
-pub record IdsTo (t ids₀ ids : List ℕ) (i : ℕ) : Type 0 where
-  pub long : length ids ≡ length ids₀
-  pub same : (k : ℕ) → k < i → getD ids k 0 ≡ idOf t k
-  pub apart : (j : ℕ) → j < i → every j (λ i. not (clash t j i)) ≡ true
+-- ---- the used slots side by side
 
-pub ids-none : (t ids : List ℕ) → IdsTo t ids ids 0
-ids-none t ids = record { long = refl; same = λ k h. absurd (omega arith); apart = λ j h. absurd (omega arith) }
+pub gather-none : (t u : List ℕ) → Gathered t u 0 0
+unfolding total
+gather-none t u = record { many = refl; low = λ k h. absurd (omega arith); used = λ k h. absurd (omega arith); before = λ k h. absurd (omega arith) }
 
-module _ (W H : ℕ) (t ids₀ ids : List ℕ) (i id : ℕ) (e : slotsSound W H t ≡ true) (d : IdsTo t ids₀ ids i) (h : i < slots t) (q : id ≡ idOf t i) where
-  -- looked for among the buffer's, it is looked for among the table's
-  among : any i (λ k. eqb (getD ids k 0) id) ≡ any i (λ k. eqb (idOf t k) (idOf t i))
-  among = any-same i (λ k. eqb (getD ids k 0) id) (λ k. eqb (idOf t k) (idOf t i)) (λ k l. ap₂ eqb (d .same k l) q)
+pub gather-miss : (t u : List ℕ) (i n : ℕ) → Gathered t u i n → usedSlot t i ≡ false → (u′ : List ℕ) (n′ : ℕ) → u′ ≡ u → n′ ≡ n → Gathered t u′ (i + 1) n′
+gather-miss t u i n g e u′ n′ p q = subst (λ k. Gathered t u′ (i + 1) k) (sym q) (subst (λ v. Gathered t v (i + 1) n) (sym p) (record {
+  many = g .many ∙ sym (count-miss i (usedSlot t) e);
+  low = λ k h. let l = g .low k h in omega arith;
+  used = g .used;
+  before = g .before;
+}))
 
-  pub ids-more : i < length ids → (not (eqb id 0) && any i (λ k. eqb (getD ids k 0) id)) ≡ false → IdsTo t ids₀ (set ids i id) (i + 1)
-  ids-more l n = record {
-    long = length-set ids i id ∙ d .long;
-    same = below-more _ i (λ k u. getD-set-other ids i k id 0 (λ z. omega arith) ∙ d .same k u) (getD-set-same ids i id 0 l ∙ q);
-    apart = below-more _ i (d .apart) (no-clash W H t i e h free);
-  }
+pub gather-hit : (t u : List ℕ) (i n : ℕ) → Gathered t u i n → usedSlot t i ≡ true → n < length u → (u′ : List ℕ) (n′ : ℕ) → u′ ≡ set u n i → n′ ≡ n + 1 → Gathered t u′ (i + 1) n′
+gather-hit t u i n g e l u′ n′ p q = subst (λ k. Gathered t u′ (i + 1) k) (sym q) (subst (λ v. Gathered t v (i + 1) (n + 1)) (sym p) (record {
+  many = ap (λ k. k + 1) (g .many) ∙ sym (count-hit i (usedSlot t) e);
+  low = all (λ j k. j < i + 1) (λ k h. let q = g .low k h in omega arith) (omega arith);
+  used = all (λ j k. usedSlot t j ≡ true) (g .used) e;
+  before = all (λ j k. count j (usedSlot t) ≡ k) (g .before) (sym (g .many));
+}))
+  where
+    -- what holds of the numbers there were and of the new one
+    all : (P : ℕ → ℕ → Type 0) → ((k : ℕ) → k < n → P (getD u k 0) k) → P i n → (k : ℕ) → k < n + 1 → P (getD (set u n i) k 0) k
+    all P f p =
+        below-more (λ k. P (getD (set u n i) k 0) k) n
+        (λ k h. subst (λ j. P j k) (sym (getD-set-other u n k i 0 (λ q. omega arith))) (f k h))
+        (subst (λ j. P j n) (sym (getD-set-same u n i 0 l)) p)
+
+-- ---- what makes a table fall
+
+module _ (W H : ℕ) (t : List ℕ) where
+  pub falls-unsound : (i : ℕ) → i < slots t → usedSlot t i ≡ true → soundSlot W H t i ≡ false → tableStands W H t ≡ false
+  unfolding tableStands slotsSound
+  falls-unsound i h u e =
+      let q : slotsSound W H t ≡ false = every-no (slots t) (λ i. freeSlot t i || soundSlot W H t i) i h (ap₂ _||_ (not-true (freeSlot t i) u) e) in
+      fails (tableStands W H t) (λ z. not-both (slotsSound W H t) (and-left (slotsSound W H t) (idsDiffer t) (and-left (slotsSound W H t && idsDiffer t) (modulesApart W H t) z)) q)
+
+  pub falls-alike : (j : ℕ) → j < slots t → usedSlot t j ≡ true → any j (hasId t (idOf t j)) ≡ true → tableStands W H t ≡ false
+  unfolding tableStands idsDiffer
+  falls-alike j h u a =
+      let w = any-at j (hasId t (idOf t j)) a in
+      let i = w .0 in
+      let used = and-left (usedSlot t i) (eqb (idOf t i) (idOf t j)) (w .2) in
+      let same = and-right (usedSlot t i) (eqb (idOf t i) (idOf t j)) (w .2) in
+      let q : idsDiffer t ≡ false =
+      every-no (slots t) (λ j. every j (λ i. not (clash t j i))) j h
+      (every-no j (λ i. not (clash t j i)) i (w .1) (ap not (and-both (and-both used u) same))) in
+      fails (tableStands W H t) (λ z. not-both (idsDiffer t) (and-right (slotsSound W H t) (idsDiffer t) (and-left (slotsSound W H t && idsDiffer t) (modulesApart W H t) z)) q)
+
+  pub falls-shared : modulesApart W H t ≡ false → tableStands W H t ≡ false
+  unfolding tableStands
+  falls-shared q = fails (tableStands W H t) (λ z. not-both (modulesApart W H t) (and-right (slotsSound W H t && idsDiffer t) (modulesApart W H t) z) q)
+
+  -- and what lets it stand
+  pub table-stands : ((j : ℕ) → j < slots t → (freeSlot t j || soundSlot W H t j) ≡ true) → ((j : ℕ) → j < slots t → usedSlot t j ≡ true → any j (hasId t (idOf t j)) ≡ false) → modulesApart W H t ≡ true → tableStands W H t ≡ true
+  unfolding tableStands slotsSound idsDiffer
+  table-stands s d m = and-both (and-both (every-yes (slots t) (λ i. freeSlot t i || soundSlot W H t i) s) (every-yes (slots t) (λ j. every j (λ i. not (clash t j i))) alone)) m
     where
-      free : 1 ≤ idOf t i → any i (λ k. eqb (idOf t k) (idOf t i)) ≡ false
-      free u =
-          ⊎-elim
-          (λ (z : not (eqb id 0) ≡ false). absurd (let y = eqb-true id 0 (not-false _ z) in omega arith))
-          (λ (z : any i (λ k. eqb (getD ids k 0) id) ≡ false). sym among ∙ z)
-          (and-fails (not (eqb id 0)) _ n)
-
-  pub ids-clash : (not (eqb id 0) && any i (λ k. eqb (getD ids k 0) id)) ≡ true → idsDiffer t ≡ false
-  ids-clash n =
-      let y = eqb-false id 0 (not-true _ (and-left (not (eqb id 0)) _ n)) in
-      clashes t i h (omega arith) (sym among ∙ and-right (not (eqb id 0)) _ n)
-
-pub ids-all : (t ids₀ ids : List ℕ) (i : ℕ) → IdsTo t ids₀ ids i → slots t ≤ i → idsDiffer t ≡ true
-ids-all t ids₀ ids i d h = ids-differ t (λ j l. d .apart j (omega arith))
+      alone : (j : ℕ) → j < slots t → every j (λ i. not (clash t j i)) ≡ true
+      alone j h =
+          every-yes j (λ i. not (clash t j i)) (λ i l. ap not (fails (clash t j i) (λ c.
+          let both = and-left (usedSlot t i && usedSlot t j) (eqb (idOf t i) (idOf t j)) c in
+          let same = and-right (usedSlot t i && usedSlot t j) (eqb (idOf t i) (idOf t j)) c in
+          true≢false (sym (any-yes j (hasId t (idOf t j)) i l (and-both (and-left (usedSlot t i) (usedSlot t j) both) same)) ∙ d j h (and-right (usedSlot t i) (usedSlot t j) both)))))

@@ -1,4 +1,5 @@
 -- What the walks of `surface` leave, and its calls.
-pub mod Marks
 pub mod Rows
+pub mod Slots
+pub mod Marks
 pub mod Outcome

@@ -1,20 +1,15 @@
--- Marks: a scratch as large as the surface, on which each module's own cells get the number that the module gives them, and all others are 0.
+-- Marks: a scratch as large as the surface, on which each module's own cells get the number that the module gives them, and all others are 1.
 use mathlib.Core.Path.{_≡_}
-use mathlib.Core.Bool.{Bool, true, false, not, cond, _&&_}
+use mathlib.Core.Bool.{Bool, true, false, cond, _&&_, _||_}
 use mathlib.Core.Logic.{_⊎_}
 use mathlib.Core.List.{List}
 use Prim.Native.Nat.{ℕ, _+_, _-_, _*_, _≤_, _<_}
+use lib.Dec.{eqb}
 use lib.IntN.{ℤ, pos, negℤ}
 use lib.ListN.{length, getD}
-use Rattle.rules.specs.Tests.{any, least}
-use Rattle.rules.specs.Surface.{cell, holds, remaining, modulesApart, slotsSound, slots}
-
--- the first i of n cells from at have the widths that remain, from n on down
-pub record RowMarked (s₀ s : List ℤ) (at n i : ℕ) : Type 0 where
-  pub long : length s ≡ length s₀
-  pub inside : (k : ℕ) → k < i → getD s (at + k) (pos 0) ≡ negℤ (pos (n - k))
-  pub before : (k : ℕ) → k < at → getD s k (pos 0) ≡ getD s₀ k (pos 0)
-  pub after : (k : ℕ) → at + i ≤ k → getD s k (pos 0) ≡ getD s₀ k (pos 0)
+use Rattle.rules.specs.Tests.{any, count, least}
+use Rattle.rules.specs.Surface.{slots, idOf, freeSlot, usedSlot, soundSlot, cell, holds, remaining}
+use Rattle.surface.specs.Slots.{tableStands}
 
 -- the j rows from y of the columns x .. x + n - 1 are marked, and nothing else has changed
 pub record Marked (W : ℕ) (s₀ s : List ℤ) (x y n j : ℕ) : Type 0 where
@@ -26,7 +21,7 @@ pub record Marked (W : ℕ) (s₀ s : List ℤ) (x y n j : ℕ) : Type 0 where
 
 -- the mark of cell (x, y) by the modules of the first n slots
 unfoldable pub markOf : List ℕ → ℕ → ℕ → ℕ → ℤ
-markOf t n x y = cond (any n (holds t x y)) (remaining t (least n (holds t x y)) x) (pos 0)
+markOf t n x y = cond (any n (holds t x y)) (remaining t (least n (holds t x y)) x) (pos 1)
 
 -- the modules of the first n slots are marked, and no two of them share a cell
 pub record MarkedTo (W H : ℕ) (t : List ℕ) (n : ℕ) (m : List ℤ) : Type 0 where
@@ -34,19 +29,33 @@ pub record MarkedTo (W H : ℕ) (t : List ℕ) (n : ℕ) (m : List ℤ) : Type 0
   pub cells : (x y : ℕ) → x < W → y < H → cell W m x y ≡ markOf t n x y
   pub apart : (x y : ℕ) → x < W → y < H → (j : ℕ) → j < n → (i : ℕ) → i < j → (holds t x y i && holds t x y j) ≡ false
 
--- what is asked before slot n is marked
-pub record Markable (W H : ℕ) (t : List ℕ) (n : ℕ) (m : List ℤ) : Type 0 where
+-- slot i is used and has this id
+abbrev pub hasId : List ℕ → ℕ → ℕ → Bool
+hasId t id i = usedSlot t i && eqb (idOf t i) id
+
+-- each of the first i slots is free or sound, the n used ones among them have ids of their own, which stand side by side in ids, and modules that
+-- are apart and marked
+pub record TakenTo (W H : ℕ) (t : List ℕ) (i : ℕ) (ids : List ℕ) (n : ℕ) (m : List ℤ) : Type 0 where
+  pub many : n ≡ count i (usedSlot t)
+  pub sound : (j : ℕ) → j < i → (freeSlot t j || soundSlot W H t j) ≡ true
+  pub differ : (j : ℕ) → j < i → usedSlot t j ≡ true → any j (hasId t (idOf t j)) ≡ false
+  pub noted : (id : ℕ) → any n (λ k. eqb (getD ids k 0) id) ≡ any i (hasId t id)
+  pub marked : MarkedTo W H t i m
+
+-- what is asked before the used slot i is taken
+pub record Takeable (W H : ℕ) (t : List ℕ) (i : ℕ) (ids : List ℕ) (n : ℕ) (m : List ℤ) : Type 0 where
   pub wide : 1 ≤ W
   pub widest : W ≤ 64
-  pub low : n < slots t
-  pub sound : slotsSound W H t ≡ true
-  pub marked : MarkedTo W H t n m
+  pub low : i < slots t
+  pub used : usedSlot t i ≡ true
+  pub room : n < length ids
+  pub taken : TakenTo W H t i ids n m
 
--- and what is left: marked too, or two modules share a cell
-pub record SlotMarked (W H : ℕ) (t : List ℕ) (n : ℕ) (m : List ℤ) (ok : Bool) : Type 0 where
-  pub more : ok ≡ true → MarkedTo W H t (n + 1) m
-  pub shared : ok ≡ false → modulesApart W H t ≡ false
+-- and what is left: it is taken too, or the surface does not stand
+pub record SlotTaken (W H : ℕ) (t : List ℕ) (i : ℕ) (ids : List ℕ) (n : ℕ) (m : List ℤ) (ok : Bool) : Type 0 where
+  pub more : ok ≡ true → TakenTo W H t (i + 1) ids (n + 1) m
+  pub falls : ok ≡ false → tableStands W H t ≡ false
 
-pub record AllMarked (W H : ℕ) (t : List ℕ) (m : List ℤ) (ok : Bool) : Type 0 where
-  pub is : ok ≡ modulesApart W H t
+pub record AllTaken (W H : ℕ) (t : List ℕ) (m : List ℤ) (ok : Bool) : Type 0 where
+  pub is : ok ≡ tableStands W H t
   pub marked : ok ≡ true → MarkedTo W H t (slots t) m

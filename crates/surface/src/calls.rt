@@ -1,76 +1,90 @@
 // A surface stands; clear; check.
 ghost use mathlib.Core.Path.{_≡_};
-ghost use Prim.Native.Nat.{ℕ, _+_, _*_, _≤_, _<_};
+ghost use mathlib.Core.Bool.{false};
+ghost use Prim.Native.Nat.{_+_, _*_, _≤_, _<_};
 ghost use lib.ListN.{length, replicate};
-ghost use lib.IntN.{ℤ, pos};
+ghost use lib.IntN.{pos};
+ghost use Rattle.rules.specs.Judging.{first};
 ghost use Rattle.rules.specs.Surface.{stands as standing};
-ghost use Rattle.rules.specs.Calls.{check as checked, checkResult, clearedWeights};
-ghost use Rattle.surface.specs.Outcome.{ClearedBy, RowFilled, Sized};
-use super::marks::mark_all;
-use super::rows::rows_right;
+ghost use Rattle.rules.specs.Calls.{badWeights, sizeLines, check as checked, checkResult, clearedWeights};
+ghost use Rattle.surface.specs.Rows.{RowWritten};
+ghost use Rattle.surface.specs.Outcome.{ClearedBy, examined, WorkedOut};
+use super::marks::take_all;
+use super::rows::count_rows;
+use super::rows::same_weights;
 use super::sizes::size_code;
-use super::slots::ids_differ;
-use super::slots::slots_sound;
-use super::slots::used_slots;
+use super::slots::gather;
 
-// Each part of "a surface stands" in turn, on a scratch of zeros.
-fn stands_on(w: usize, h: usize, s: &[i16], t: &[u8], m: &mut [i16]) -> bool
-    requires { ⌜ Sized w h (now s) (now t) × (now m ≡ replicate (w * h) (pos 0)) ⌝ }
-    ensures { λ r. ⌜ r ≡ standing w h (now (s .entry)) (now (t .entry)) ⌝ }
-{
-    if !slots_sound(t, w, h) {
-        return false;
-    }
-    if !ids_differ(t, w, h) {
-        return false;
-    }
-    if !mark_all(t, w, h, m) {
-        return false;
-    }
-    rows_right(s, m, w, h)
+// What "the surface is examined" comes to: it stands, with so many slots used, or it does not.
+pub enum Examined {
+    Stands(usize),
+    Falls,
 }
 
-// The scratch is a local array, of one of three sizes, so that a small surface does not pay for clearing a large one.
-fn stands_small(w: usize, h: usize, s: &[i16], t: &[u8]) -> bool
-    requires { ⌜ Sized w h (now s) (now t) × (w * h ≤ 256) ⌝ }
-    ensures { λ r. ⌜ r ≡ standing w h (now (s .entry)) (now (t .entry)) ⌝ }
+// The used slots are gathered and taken in turn, which marks their modules; then the rows are counted.
+fn work_out_on(
+    w: usize,
+    h: usize,
+    t: &[u8],
+    used: &mut [u8],
+    ids: &mut [u16],
+    m: &mut [i16],
+) -> Examined
+    requires { ⌜ (first (sizeLines false w h (length (now t))) ≡ 0) × (now m ≡ replicate (w * h) (pos 1)) × (length (now used) ≡ 256) × (length (now ids) ≡ 256) ⌝ }
+    ensures { λ r. ⌜ WorkedOut w h (now (t .entry)) r (now (m .exit)) ⌝ }
+{
+    let n = gather(t, used);
+    if !take_all(t, w, h, used, n, ids, m) {
+        return Examined::Falls;
+    }
+    count_rows(m, w, h);
+    Examined::Stands(n)
+}
+
+// The table is examined, and its weights are worked out afresh on a scratch of ones.
+pub fn work_out(w: usize, h: usize, t: &[u8], m: &mut [i16]) -> Examined
+    requires { ⌜ (first (sizeLines false w h (length (now t))) ≡ 0) × (now m ≡ replicate (w * h) (pos 1)) ⌝ }
+    ensures { λ r. ⌜ WorkedOut w h (now (t .entry)) r (now (m .exit)) ⌝ }
+{
+    let mut used = [0u8; 256];
+    let mut ids = [0u16; 256];
+    work_out_on(w, h, t, &mut used[..256], &mut ids[..256], m)
+}
+
+// The weights worked out, then the lent ones held against them.
+fn examine_on(w: usize, h: usize, s: &[i16], t: &[u8], m: &mut [i16]) -> Examined
+    requires { ⌜ (first (sizeLines (badWeights w h (now s)) w h (length (now t))) ≡ 0) × (now m ≡ replicate (w * h) (pos 1)) ⌝ }
+    ensures { λ r. ⌜ r ≡ examined (standing w h (now (s .entry)) (now (t .entry))) (now (t .entry)) ⌝ }
+{
+    let Examined::Stands(used) = work_out(w, h, t, m) else {
+        return Examined::Falls;
+    };
+    if !same_weights(m, s) {
+        return Examined::Falls;
+    }
+    Examined::Stands(used)
+}
+
+// A surface of right sizes and lengths. The scratch is of ones, not of zeros: the compiler stores ones many at a time, and leaves as many zeros to a
+// far slower clearing of memory.
+fn examine(w: usize, h: usize, s: &[i16], t: &[u8]) -> Examined
+    requires { ⌜ first (sizeLines (badWeights w h (now s)) w h (length (now t))) ≡ 0 ⌝ }
+    ensures { λ r. ⌜ r ≡ examined (standing w h (now (s .entry)) (now (t .entry))) (now (t .entry)) ⌝ }
 {
     let n = w * h;
-    let mut m = [0i16; 256];
-    stands_on(w, h, s, t, &mut m[..n])
+    let mut m = [1i16; 4096];
+    examine_on(w, h, s, t, &mut m[..n])
 }
 
-fn stands_middle(w: usize, h: usize, s: &[i16], t: &[u8]) -> bool
-    requires { ⌜ Sized w h (now s) (now t) × (w * h ≤ 1024) ⌝ }
-    ensures { λ r. ⌜ r ≡ standing w h (now (s .entry)) (now (t .entry)) ⌝ }
-{
-    let n = w * h;
-    let mut m = [0i16; 1024];
-    stands_on(w, h, s, t, &mut m[..n])
-}
-
-fn stands_large(w: usize, h: usize, s: &[i16], t: &[u8]) -> bool
-    requires { ⌜ Sized w h (now s) (now t) × (w * h ≤ 4096) ⌝ }
-    ensures { λ r. ⌜ r ≡ standing w h (now (s .entry)) (now (t .entry)) ⌝ }
-{
-    let n = w * h;
-    let mut m = [0i16; 4096];
-    stands_on(w, h, s, t, &mut m[..n])
-}
-
-// Whether a surface of right sizes and lengths stands.
+// Whether it stands.
 pub fn stands(w: usize, h: usize, s: &[i16], t: &[u8]) -> bool
-    requires { ⌜ Sized w h (now s) (now t) ⌝ }
+    requires { ⌜ first (sizeLines (badWeights w h (now s)) w h (length (now t))) ≡ 0 ⌝ }
     ensures { λ r. ⌜ r ≡ standing w h (now (s .entry)) (now (t .entry)) ⌝ }
 {
-    let n = w * h;
-    if n <= 256 {
-        return stands_small(w, h, s, t);
-    }
-    if n <= 1024 {
-        return stands_middle(w, h, s, t);
-    }
-    stands_large(w, h, s, t)
+    let Examined::Stands(_) = examine(w, h, s, t) else {
+        return false;
+    };
+    true
 }
 
 // check: codes 1, 2, 3, 6; counts the used slots. Weights and table are lent for reading only.
@@ -81,16 +95,16 @@ pub fn check(w: usize, h: usize, s: &[i16], t: &[u8]) -> u64
     if code != 0 {
         return code;
     }
-    if !stands(w, h, s, t) {
+    let Examined::Stands(used) = examine(w, h, s, t) else {
         return 6;
-    }
-    65536 * (used_slots(t) as u64)
+    };
+    65536 * (used as u64)
 }
 
 // A run of n cells from at is given the count v.
 fn fill_row(s: &mut [i16], at: usize, n: usize, v: usize)
     requires { ⌜ (at + n ≤ length (now s)) × (v ≤ 32767) ⌝ }
-    ensures { λ _. ⌜ RowFilled (now (s .entry)) (now (s .exit)) at n (pos v) ⌝ }
+    ensures { λ _. ⌜ RowWritten (now (s .entry)) (now (s .exit)) at n (λ _. pos v) ⌝ }
 {
     let mut i = 0;
     while i < n {

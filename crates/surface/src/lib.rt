@@ -1,6 +1,6 @@
 // The surface: clear and check. A file for each part of "a surface stands".
 pub mod sizes; // codes 1, 2 and 3
-pub mod slots; // every slot is free or sound; no two used slots have the same id
-pub mod marks; // no two modules share a cell
-pub mod rows; // every weight is right
+pub mod slots; // the used slots; a slot is sound; an id is seen
+pub mod marks; // slots taken in turn: sound, with an id and cells of their own
+pub mod rows; // weights worked out from the marks, and compared
 pub mod calls; // stands, clear, check

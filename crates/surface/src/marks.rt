@@ -1,17 +1,19 @@
 // "no two modules share a cell": each module's own cells are marked on a scratch, as far as none of them is marked already. That costs at most one
 // look and one store for each cell of the surface.
-ghost use mathlib.Core.Path.{_≡_};
-ghost use mathlib.Core.Bool.{Bool, true, false};
-ghost use Prim.Native.Nat.{ℕ, _+_, _*_, _≤_, _<_};
+ghost use Prim.Native.Nat.{_+_, _-_, _*_, _≤_, _<_};
 ghost use lib.ListN.{length};
-ghost use lib.IntN.{ℤ};
-ghost use Rattle.rules.specs.Surface.{slots, slotsSound};
-ghost use Rattle.surface.specs.Marks.{RowMarked, Marked, MarkedTo, Markable, SlotMarked, AllMarked};
+ghost use lib.IntN.{pos, negℤ};
+ghost use Rattle.rules.specs.Surface.{slots};
+ghost use Rattle.surface.specs.Rows.{RowWritten};
+ghost use Rattle.surface.specs.Slots.{Gathered};
+ghost use Rattle.surface.specs.Marks.{Marked, TakenTo, Takeable, SlotTaken, AllTaken};
+use super::slots::seen;
+use super::slots::sound;
 
 // The n cells from at get the widths that remain, n down to 1.
 fn mark_row(m: &mut [i16], at: usize, n: usize)
     requires { ⌜ (at + n ≤ length (now m)) × (n ≤ 32767) ⌝ }
-    ensures { λ _. ⌜ RowMarked (now (m .entry)) (now (m .exit)) at n n ⌝ }
+    ensures { λ _. ⌜ RowWritten (now (m .entry)) (now (m .exit)) at n (λ k. negℤ (pos (n - k))) ⌝ }
 {
     let mut i = 0;
     while i < n {
@@ -32,34 +34,54 @@ fn mark(m: &mut [i16], w: usize, x: usize, y: usize, mw: usize, mh: usize)
     }
 }
 
-// The module of slot i, if it is used and shares no cell with those marked.
-fn mark_slot(t: &[u8], i: usize, w: usize, h: usize, m: &mut [i16]) -> bool
-    requires { ⌜ Markable w h (now t) i (now m) ⌝ }
-    ensures { λ r. ⌜ SlotMarked w h (now (t .entry)) i (now (m .exit)) r ⌝ }
+// The used slot i, with n ids noted before it: it has to be sound, its id new and its cells not taken.
+fn take_slot(
+    t: &[u8],
+    i: usize,
+    w: usize,
+    h: usize,
+    ids: &mut [u16],
+    n: usize,
+    m: &mut [i16],
+) -> bool
+    requires { ⌜ Takeable w h (now t) i (now ids) n (now m) ⌝ }
+    ensures { λ r. ⌜ SlotTaken w h (now (t .entry)) i (now (ids .exit)) n (now (m .exit)) r ⌝ }
 {
-    if table::slot_free(t, i) {
-        return true;
-    }
+    let id = table::id_at(t, i);
     let r = table::rect_at(t, i);
+    if !sound(t, i, id, r, w, h) {
+        return false;
+    }
+    if seen(ids, n, id as u16) {
+        return false;
+    }
     if !cells::none_taken(m, w, r.x, r.y, r.w, r.h) {
         return false;
     }
     mark(m, w, r.x, r.y, r.w, r.h);
+    ids[n] = id as u16;
     true
 }
 
-// Whether no two modules share a cell; if so, all are marked.
-pub fn mark_all(t: &[u8], w: usize, h: usize, m: &mut [i16]) -> bool
-    requires { ⌜ (1 ≤ w) × (w ≤ 64) × (slotsSound w h (now t) ≡ true) × MarkedTo w h (now t) 0 (now m) ⌝ }
-    ensures { λ r. ⌜ AllMarked w h (now (t .entry)) (now (m .exit)) r ⌝ }
+// The n used slots in turn: whether the table's part of "a surface stands" holds. If so, all modules are marked.
+pub fn take_all(
+    t: &[u8],
+    w: usize,
+    h: usize,
+    used: &[u8],
+    n: usize,
+    ids: &mut [u16],
+    m: &mut [i16],
+) -> bool
+    requires { ⌜ (1 ≤ w) × (w ≤ 64) × Gathered (now t) (now used) (slots (now t)) n × (n ≤ length (now used)) × (n ≤ length (now ids)) × TakenTo w h (now t) 0 (now ids) 0 (now m) ⌝ }
+    ensures { λ r. ⌜ AllTaken w h (now (t .entry)) (now (m .exit)) r ⌝ }
 {
-    let n = t.len() / 8;
-    let mut i = 0;
-    while i < n {
-        if !mark_slot(t, i, w, h, m) {
+    let mut k = 0;
+    while k < n {
+        if !take_slot(t, used[k] as usize, w, h, ids, k, m) {
             return false;
         }
-        i += 1;
+        k += 1;
     }
     true
 }

@@ -1,83 +1,87 @@
-// "every weight is as above": row after row, each weight is held against its mark and the weight above it. What is above was found right before.
+// "every weight is as above": the weights are worked out afresh, row after row, from the marks and the row above; then the lent ones are held
+// against them. Each loop looks at all its cells, so that the compiler takes many at a time.
 ghost use mathlib.Core.Path.{_≡_};
-ghost use Prim.Native.Nat.{ℕ, _+_, _*_, _≤_, _<_};
+ghost use mathlib.Core.Bool.{cond};
+ghost use Prim.Native.Nat.{ℕ, _+_, _-_, _*_, _≤_, _<_};
 ghost use lib.ListN.{length, getD};
-ghost use Rattle.rules.specs.Tests.{eqZ};
-ghost use lib.IntN.{ℤ, pos};
-ghost use Prim.Native.Nat.{suc};
-ghost use Rattle.cells.specs.Weight.{countOf};
-ghost use Rattle.surface.specs.Rows.{rightZ, aboveAt, rowRight, rowsRight};
+ghost use lib.IntN.{pos};
+ghost use Rattle.cells.specs.Weight.{takenZ, countOf, sameWeights};
+ghost use Rattle.surface.specs.Rows.{RowWritten, countedOn, CountedTo};
 
-fn is_same(v: i16, m: i16) -> bool
-    ensures { λ r. ⌜ r ≡ eqZ v m ⌝ }
+// What a cell below one with weight a counts on from: nothing below an occupied one. `above` and `pick` are leaves so that both become selections
+// and no branch is left in a row.
+fn above(a: i16) -> i16
+    ensures { λ r. ⌜ r ≡ pos (countOf a) ⌝ }
 {
-    v == m
+    if a < 0 { 0 } else { a }
 }
 
-fn counts_on(v: i16, a: i16) -> bool
-    ensures { λ r. ⌜ r ≡ eqZ v (pos (suc (countOf a))) ⌝ }
+// The mark of an occupied cell, the count of an empty one.
+fn pick(m: i16, c: i16) -> i16
+    ensures { λ r. ⌜ r ≡ cond (takenZ m) m c ⌝ }
 {
-    if a < 0 {
-        return v == 1;
-    }
-    (v as i32) == (a as i32) + 1
+    if m < 0 { m } else { c }
 }
 
-fn right(v: i16, m: i16, a: i16) -> bool
-    ensures { λ r. ⌜ r ≡ rightZ v m a ⌝ }
+fn counted_on(m: i16, a: i16) -> i16
+    requires { ⌜ countOf a ≤ 64 ⌝ }
+    ensures { λ r. ⌜ r ≡ countedOn m a ⌝ }
 {
-    if cells::is_taken(m) {
-        return is_same(v, m);
-    }
-    counts_on(v, a)
+    let c = above(a) + 1;
+    pick(m, c)
 }
 
-// The weight above item x of the row that begins at `at`.
-fn above_at(s: &[i16], w: usize, at: usize, x: usize) -> i16
-    requires { ⌜ at + x < length (now s) ⌝ }
-    ensures { λ r. ⌜ r ≡ aboveAt w (now (s .entry)) at x ⌝ }
+fn first_row(m: &mut [i16], w: usize)
+    requires { ⌜ w ≤ length (now m) ⌝ }
+    ensures { λ _. ⌜ RowWritten (now (m .entry)) (now (m .exit)) 0 w (λ x. countedOn (getD (now (m .entry)) x (pos 0)) (pos 0)) ⌝ }
 {
-    if at < w {
-        return 0;
-    }
-    s[at - w + x]
-}
-
-fn right_at(s: &[i16], m: &[i16], w: usize, at: usize, x: usize) -> bool
-    requires { ⌜ (at + x < length (now s)) × (at + x < length (now m)) ⌝ }
-    ensures { λ r. ⌜ r ≡ rightZ (getD (now (s .entry)) (at + x) (pos 0)) (getD (now (m .entry)) (at + x) (pos 0)) (aboveAt w (now (s .entry)) at x) ⌝ }
-{
-    right(s[at + x], m[at + x], above_at(s, w, at, x))
-}
-
-// The row that begins at `at`. It looks at all its cells, so that the compiler takes many at a time.
-fn row_right(s: &[i16], m: &[i16], w: usize, at: usize) -> bool
-    requires { ⌜ (at + w ≤ length (now s)) × (at + w ≤ length (now m)) ⌝ }
-    ensures { λ r. ⌜ r ≡ rowRight w (now (s .entry)) (now (m .entry)) at ⌝ }
-{
-    let mut ok = true;
     let mut x = 0;
     while x < w {
-        if !right_at(s, m, w, at, x) {
-            ok = false;
-        }
+        m[x] = counted_on(m[x], 0);
         x += 1;
     }
-    ok
 }
 
-pub fn rows_right(s: &[i16], m: &[i16], w: usize, h: usize) -> bool
-    requires { ⌜ (length (now s) ≡ w * h) × (length (now m) ≡ w * h) ⌝ }
-    ensures { λ r. ⌜ r ≡ rowsRight w h (now (s .entry)) (now (m .entry)) ⌝ }
+// The row that begins at `at`, from the row above it.
+fn next_row(m: &mut [i16], w: usize, at: usize)
+    requires { ⌜ (w ≤ at) × (at + w ≤ length (now m)) × ((x : ℕ) → x < w → countOf (getD (now m) (at - w + x) (pos 0)) ≤ 64) ⌝ }
+    ensures { λ _. ⌜ RowWritten (now (m .entry)) (now (m .exit)) at w (λ x. countedOn (getD (now (m .entry)) (at + x) (pos 0)) (getD (now (m .entry)) (at - w + x) (pos 0))) ⌝ }
 {
-    let mut at = 0;
-    let mut y = 0;
+    let mut x = 0;
+    let up = at - w;
+    while x < w {
+        m[at + x] = counted_on(m[at + x], m[up + x]);
+        x += 1;
+    }
+}
+
+// All rows, from the top.
+pub fn count_rows(m: &mut [i16], w: usize, h: usize)
+    requires { ⌜ (1 ≤ h) × (h ≤ 64) × (w ≤ 64) × (length (now m) ≡ w * h) ⌝ }
+    ensures { λ _. ⌜ CountedTo w (now (m .entry)) (now (m .exit)) h ⌝ }
+{
+    first_row(m, w);
+    let mut at = w;
+    let mut y = 1;
     while y < h {
-        if !row_right(s, m, w, at) {
-            return false;
-        }
+        next_row(m, w, at);
         at += w;
         y += 1;
     }
-    true
+}
+
+// Whether the lent weights s are those worked out.
+pub fn same_weights(m: &[i16], s: &[i16]) -> bool
+    requires { ⌜ length (now m) ≡ length (now s) ⌝ }
+    ensures { λ r. ⌜ r ≡ sameWeights (now (m .entry)) (now (s .entry)) ⌝ }
+{
+    let mut ok = true;
+    let mut k = 0;
+    while k < m.len() {
+        if !cells::is_same(m[k], s[k]) {
+            ok = false;
+        }
+        k += 1;
+    }
+    ok
 }

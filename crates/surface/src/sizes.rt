@@ -1,7 +1,7 @@
 // Codes 1, 2 and 3, before anything is read.
 ghost use mathlib.Core.Path.{_≡_};
 ghost use mathlib.Core.Bool.{not};
-ghost use Prim.Native.Nat.{ℕ, _*_, _≤_};
+ghost use Prim.Native.Nat.{_*_, _≤_};
 ghost use lib.Dec.{eqb};
 ghost use Rattle.rules.specs.Calls.{badSize, badTable, sizeLines};
 ghost use Rattle.rules.specs.Judging.{first};

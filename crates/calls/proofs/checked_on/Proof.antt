@@ -1,54 +1,49 @@
-use mathlib.Core.Path.{_≡_, refl, sym, ap, _∙_}
-use Prim.Native.Nat.{_*_}
+use mathlib.Core.Path.{_≡_, sym, _∙_}
+use mathlib.Core.Bool.{true}
 use native.Mathlib.Omega.{arith}
 use borrow.Author.Needs.{needs}
-use borrow.Author.Tests.{not-true, not-false}
 use lib.ListN.{length}
-use Rattle.rules.specs.Surface.{slots, usedSlot, usedSlots, stands}
-use Rattle.rules.specs.Host.{weightsOf}
-use Rattle.surface.specs.Outcome.{Sized}
-use Rattle.surface.proofs.SlotLaws.{count-le}
-use Rattle.calls.proofs.Laws.{lent-long, lent-sized, checked-fallen, checked-done}
+use Rattle.rules.specs.Surface.{stands, usedSlots}
+use Rattle.rules.specs.Host.{badBytes, weightsOf}
+use Rattle.surface.proofs.CallLaws.{good, used-few, stood, fallen}
+use Rattle.calls.proofs.Laws.{checked-fallen, checked-done}
 use Rattle.calls.proofs.checked_on.Statement.{statement}
 use Rattle.calls.proofs.checked_on.Tie as tie
 
-decode-requires : tie.Need-decode-requires
-decode-requires c κs = let s = c .before .before .before in
-    lent-long (s .args .w) (s .args .h) (s .args .b .now) (s .args .t .now) (s .pre .0) ∙ ap (λ k. 2 * k) (sym (s .pre .1))
+examine-requires : tie.Need-examine-requires
+examine-requires c κs = search needs
 
-stands-requires : tie.Need-stands-requires
-stands-requires c κs =
-    let s = c .before .before .before .before .before .before in
-    let z = lent-sized (s .args .w) (s .args .h) (s .args .b .now) (s .args .t .now) (s .pre .0) in
-    rw (c .before .before .decode .ensures) z
+enum-known-used : tie.Need-enum-known-used
+enum-known-used c = search needs
 
--- the test of what was decoded is that of the lent weights
-stood : (c : tie.After-stands) → let s = c .before .before .before .before .before .before .before in c .stands .result ≡ stands (s .args .w) (s .args .h) (weightsOf (s .args .b .now)) (s .args .t .now)
-stood c = let s = c .before .before .before .before .before .before .before in c .stands .ensures ∙ ap (λ l. stands (s .args .w) (s .args .h) l (s .args .t .now)) (c .before .before .before .decode .ensures)
+enum-told : tie.Need-enum-told
+enum-told c = search needs
 
 same-length : tie.Need-same-length
 same-length c = search needs
 
 returns : tie.Need-returns
-returns c = let s = c .before .before .before .before .before .before .before .before in
-    checked-fallen (s .args .w) (s .args .h) (s .args .b .now) (s .args .t .now) (s .pre .0) (sym (stood (c .before)) ∙ not-true _ (c .if1 .taken))
+returns c = let s = c .before .before .before .before .before .before .before in let a = s .args in
+    checked-fallen (a .w) (a .h) (a .b .now) (a .t .now) (s .pre .0) (fallen _ (a .t .now) (sym (c .enum-told .given .1) ∙ c .before .before .before .examine .ensures .answer))
 
-used-slots-requires : tie.Need-used-slots-requires
-used-slots-requires c κs = search needs
+-- it stands, with so many slots used
+told : (c : tie.After-known-told) → let a = c .before .before .before .before .before .before .before .before .args in
+    (stands (a .w) (a .h) (weightsOf (a .b .now)) (a .t .now) ≡ true) × (c .before .used .given .0 .0 ≡ usedSlots (a .t .now))
+told c = stood _ (c .before .before .before .before .before .before .before .before .args .t .now) _ (sym (c .before .used .given .1) ∙ c .before .before .before .before .examine .ensures .answer)
 
 mul-result : tie.Need-mul-result
-unfolding usedSlots
 mul-result c =
-    let s = c .before .before .before .before .before .before .before .before .before in
-    let z = lent-sized (s .args .w) (s .args .h) (s .args .b .now) (s .args .t .now) (s .pre .0) in
-    omega (arith, c .used-slots .ensures, count-le (slots (s .args .t .now)) (usedSlot (s .args .t .now)), z .few)
+    let s = c .before .before .before .before .before .before .before .before in
+    let a = s .args in
+    let d = good (badBytes (a .w) (a .h) (a .b .now)) (a .w) (a .h) (length (a .t .now)) (s .pre .0 .right) in
+    omega (arith, told c .1, used-few (a .t .now), d .few)
 
 same-length-2 : tie.Need-same-length-2
 same-length-2 c = search needs
 
 returns-2 : tie.Need-returns-2
-returns-2 c = let s = c .before .before .before .before .before .before .before .before .before in
-    checked-done (s .args .w) (s .args .h) (s .args .b .now) (s .args .t .now) (s .pre .0) (sym (stood (c .before .before)) ∙ not-false _ (c .before .if1 .left)) _ (c .used-slots .ensures)
+returns-2 c = let s = c .before .before .before .before .before .before .before .before in let a = s .args in
+    checked-done (a .w) (a .h) (a .b .now) (a .t .now) (s .pre .0) (told c .0) _ (told c .1)
 
 pub checked-on-spec : {M : Type 1} → statement M
-checked-on-spec = tie.close (tie.spec decode-requires stands-requires same-length returns used-slots-requires mul-result same-length-2 returns-2)
+checked-on-spec = tie.close (tie.spec examine-requires enum-known-used enum-told same-length returns mul-result same-length-2 returns-2)

@@ -1,8 +1,7 @@
-use mathlib.Core.Path.{_≡_, refl, sym, ap, _∙_}
-use Prim.Native.Nat.{_*_}
+use mathlib.Core.Path.{refl, sym, _∙_}
 use native.Mathlib.Omega.{arith}
 use borrow.Author.Needs.{needs}
-use Rattle.surface.proofs.CallLaws.{part}
+use Rattle.surface.proofs.CallLaws.{ones-part, part}
 use Rattle.calls.specs.Promise.{Lent}
 use Rattle.calls.proofs.Laws.{lent-area, checked-refused}
 use Rattle.calls.proofs.freelist_check.Statement.{statement}
@@ -28,7 +27,7 @@ slice-aggregate-checked-on : tie.Need-slice-aggregate-checked-on
 slice-aggregate-checked-on c = part _ _ 4096 (array-borrow-prefix-a (c .before)) refl
 
 checked-on-requires : tie.Need-checked-on-requires
-checked-on-requires c κs = (right (c .before), sym (part _ _ 4096 (array-borrow-prefix-a (c .before)) refl))
+checked-on-requires c κs = (right (c .before), ones-part _ 4096 (array-borrow-prefix-a (c .before)))
 
 returns-2 : tie.Need-returns-2
 returns-2 c = c .before .checked-on .ensures

@@ -1,8 +1,7 @@
-use mathlib.Core.Path.{_≡_, refl, sym, ap, _∙_}
-use Prim.Native.Nat.{_*_}
+use mathlib.Core.Path.{refl, sym, _∙_}
 use native.Mathlib.Omega.{arith}
 use borrow.Author.Needs.{needs}
-use Rattle.surface.proofs.CallLaws.{part}
+use Rattle.surface.proofs.CallLaws.{ones-part, part}
 use Rattle.calls.specs.Promise.{Lent}
 use Rattle.calls.proofs.Laws.{lent-area, listed-refused}
 use Rattle.calls.proofs.freelist_list.Statement.{statement}
@@ -28,7 +27,7 @@ slice-aggregate-listed-on : tie.Need-slice-aggregate-listed-on
 slice-aggregate-listed-on c = part _ _ 4096 (array-borrow-prefix-a (c .before)) refl
 
 listed-on-requires : tie.Need-listed-on-requires
-listed-on-requires c κs = (right (c .before .before), sym (part _ _ 4096 (array-borrow-prefix-a (c .before)) refl))
+listed-on-requires c κs = (right (c .before .before), ones-part _ 4096 (array-borrow-prefix-a (c .before)))
 
 same-length : tie.Need-same-length
 same-length c = search needs

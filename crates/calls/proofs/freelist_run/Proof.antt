@@ -1,8 +1,8 @@
-use mathlib.Core.Path.{_≡_, refl, sym, ap, _∙_}
+use mathlib.Core.Path.{refl, sym, _∙_}
 use Prim.Native.Nat.{_*_, _≤_}
 use native.Mathlib.Omega.{arith}
 use borrow.Author.Needs.{needs}
-use Rattle.surface.proofs.CallLaws.{part}
+use Rattle.surface.proofs.CallLaws.{ones-part, part}
 use Rattle.calls.specs.Promise.{LentBlock}
 use Rattle.calls.proofs.Laws.{lent-area}
 use Rattle.calls.proofs.RunLaws.{block-lent, ran-refused}
@@ -34,7 +34,7 @@ slice-aggregate-ran-on : tie.Need-slice-aggregate-ran-on
 slice-aggregate-ran-on c = part _ _ 4096 (few (c .before .before .before .before)) refl
 
 ran-on-requires : tie.Need-ran-on-requires
-ran-on-requires c κs = (right (c .before .before .before .before), sym (part _ _ 4096 (few (c .before .before .before .before)) refl))
+ran-on-requires c κs = (right (c .before .before .before .before), ones-part _ 4096 (few (c .before .before .before .before)))
 
 same-length : tie.Need-same-length
 same-length c = search needs

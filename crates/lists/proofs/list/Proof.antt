@@ -4,8 +4,8 @@ use borrow.Author.Needs.{needs}
 use borrow.Author.Tests.{not-true, not-false}
 use Rattle.rules.specs.Calls.{badWeights, sizeLines}
 use Rattle.rules.specs.Judging.{first}
-use Rattle.surface.proofs.CallLaws.{size-one, sized}
-use Rattle.lists.proofs.Laws.{standing, listed-refused, listed-fallen, listed-done}
+use Rattle.surface.proofs.CallLaws.{size-one}
+use Rattle.lists.proofs.Laws.{sized-standing, listed-refused, listed-fallen, listed-done}
 use Rattle.lists.proofs.list.Statement.{statement}
 use Rattle.lists.proofs.list.Tie as tie
 
@@ -24,7 +24,7 @@ zero-is : (c : tie.Else1) → let a = c .before .before .before .before .args in
 zero-is c = sym (code-is (c .before)) ∙ c .if1 .left
 
 stands-requires : tie.Need-stands-requires
-stands-requires c κs = let a = c .before .before .before .before .args in sized (a .w) (a .h) (a .s .now) (a .t .now) (zero-is c)
+stands-requires c κs = zero-is c
 
 returns-2 : tie.Need-returns-2
 returns-2 c = let a = c .before .before .before .before .before .before .args in
@@ -32,7 +32,7 @@ returns-2 c = let a = c .before .before .before .before .before .before .args in
 
 list-standing-requires : tie.Need-list-standing-requires
 list-standing-requires c κs = let a = c .before .before .before .before .before .before .before .args in
-    standing (a .w) (a .h) (a .s .now) (a .t .now) (zero-is (c .before .before .before)) (sym (c .before .before .stands .ensures) ∙ not-false _ (c .before .if2 .left))
+    sized-standing (a .w) (a .h) (a .s .now) (a .t .now) (zero-is (c .before .before .before)) (sym (c .before .before .stands .ensures) ∙ not-false _ (c .before .if2 .left))
 
 same-length : tie.Need-same-length
 same-length c = search needs

@@ -7,10 +7,9 @@ use borrow.Author.Tests.{not-true, not-false}
 use Rattle.rules.specs.Blocks.{requests}
 use Rattle.rules.specs.Calls.{badWeights, sizeLines}
 use Rattle.rules.specs.Judging.{first}
-use Rattle.surface.proofs.CallLaws.{sized}
 use Rattle.lists.specs.Promise.{blockLines}
 use Rattle.lists.proofs.BlockLaws.{accepted-few}
-use Rattle.lists.proofs.Laws.{standing, block-one, run-sizes, run-block, ran-refused, ran-fallen, ran-done}
+use Rattle.lists.proofs.Laws.{sized-standing, block-one, run-sizes, run-block, ran-refused, ran-fallen, ran-done}
 use Rattle.lists.proofs.run.Statement.{statement}
 use Rattle.lists.proofs.run.Tie as tie
 
@@ -33,7 +32,7 @@ sizes-zero : (c : tie.Else1) → let a = c .before .before .before .before .befo
 sizes-zero c = let a = c .before .before .before .before .before .args in run-sizes (a .w) (a .h) (a .s .now) (a .t .now) (a .b .now) (a .a .now) (zero-is c)
 
 stands-requires : tie.Need-stands-requires
-stands-requires c κs = let a = c .before .before .before .before .before .before .before .args in sized (a .w) (a .h) (a .s .now) (a .t .now) (sizes-zero (c .before .before))
+stands-requires c κs = sizes-zero (c .before .before)
 
 same-length : tie.Need-same-length
 same-length c = search needs
@@ -49,7 +48,7 @@ run-on-requires : tie.Need-run-on-requires
 run-on-requires c κs =
     let a = c .before .before .before .before .before .before .before .before .before .before .before .before .args in
     let g = run-block (a .w) (a .h) (a .s .now) (a .t .now) (a .b .now) (a .a .now) (zero-is (c .before .before .before .before .before .before .before)) in (
-      standing (a .w) (a .h) (a .s .now) (a .t .now) (sizes-zero (c .before .before .before .before .before .before .before)) (sym (c .before .before .before .before .stands .ensures) ∙ not-false _ (c .before .before .before .if2 .left)),
+      sized-standing (a .w) (a .h) (a .s .now) (a .t .now) (sizes-zero (c .before .before .before .before .before .before .before)) (sym (c .before .before .before .before .stands .ensures) ∙ not-false _ (c .before .before .before .if2 .left)),
       (g .whole, g .few, g .alike),
     )
 

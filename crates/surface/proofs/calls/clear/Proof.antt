@@ -1,10 +1,9 @@
 use mathlib.Core.Path.{_≡_, sym, _∙_}
-use native.Mathlib.Omega.{arith}
 use lib.ListN.{length}
 use borrow.Author.Needs.{needs}
 use Rattle.rules.specs.Calls.{badWeights, sizeLines}
 use Rattle.rules.specs.Judging.{first}
-use Rattle.surface.proofs.CallLaws.{size-one, sized, clear-refused, clear-done}
+use Rattle.surface.proofs.CallLaws.{size-one, good, weights-long, clear-refused, clear-done}
 use Rattle.surface.proofs.calls.clear.Statement.{statement}
 use Rattle.surface.proofs.calls.clear.Tie as tie
 
@@ -25,8 +24,8 @@ zero-is c = sym (code-is (c .before)) ∙ c .if1 .left
 clear-weights-requires : tie.Need-clear-weights-requires
 clear-weights-requires c κs =
     let a = c .before .before .before .before .args in
-    let d = sized (a .w) (a .h) (a .s .now) (a .t .now) (zero-is (c .before)) in
-    (d .widest, d .highest, d .long)
+    let d = good (badWeights (a .w) (a .h) (a .s .now)) (a .w) (a .h) (length (a .t .now)) (zero-is (c .before)) in
+    (d .widest, d .highest, weights-long (a .w) (a .h) (length (a .t .now)) (a .s .now) (zero-is (c .before)))
 
 free-slots-requires : tie.Need-free-slots-requires
 free-slots-requires c κs = search needs

@@ -1,9 +1,9 @@
-use mathlib.Core.Path.{_≡_, sym, subst}
-use Prim.Native.Nat.{ℕ, _+_, _*_, _≤_, _<_, _-_}
+use mathlib.Core.Path.{_≡_, subst}
+use Prim.Native.Nat.{_+_, _*_, _≤_, _-_}
 use native.Mathlib.Nat.{add-mul}
 use native.Mathlib.Omega.{arith}
 use lib.IntN.{pos}
-use Rattle.surface.specs.Outcome.{RowFilled}
+use Rattle.surface.specs.Rows.{RowWritten}
 use Rattle.surface.proofs.RowLaws.{row-end}
 use Rattle.surface.proofs.ClearLaws.{ClearedTo, cleared-none, cleared-more, cleared-all}
 use Rattle.surface.proofs.calls.clear_weights.Statement.{statement}
@@ -41,7 +41,7 @@ loop-again : tie.Need-loop-again Inv-loop μ-loop
 loop-again c = let l = c .before .before .before .before .loop in let a = c .before .before .before .before .before .args in (
   omega arith,
   omega (arith, add-mul (l .y) 1 (a .w)),
-  cleared-more (a .w) (l .y) (a .s .now) (l .s) _ (l .inv .2) (subst (λ n. RowFilled (l .s) (c .before .fill-row .last .0) n (a .w) (pos (l .y + 1))) (l .inv .1) (c .before .fill-row .ensures)),
+  cleared-more (a .w) (l .y) (a .s .now) (l .s) _ (l .inv .2) (subst (λ n. RowWritten (l .s) (c .before .fill-row .last .0) n (a .w) (λ _. pos (l .y + 1))) (l .inv .1) (c .before .fill-row .ensures)),
 )
 
 same-length : tie.Need-same-length Inv-loop μ-loop

@@ -1,14 +1,14 @@
-use mathlib.Core.Path.{_≡_, subst}
-use Prim.Native.Nat.{ℕ, _+_, _≤_, _<_, _-_}
+use mathlib.Core.Path.{refl, subst}
+use Prim.Native.Nat.{_≤_, _-_}
 use native.Mathlib.Omega.{arith}
-use lib.ListN.{length}
-use Rattle.surface.specs.Marks.{RowMarked}
-use Rattle.surface.proofs.MarkLaws.{row-none, row-more}
+use lib.IntN.{pos, negℤ}
+use Rattle.surface.specs.Rows.{RowWritten}
+use Rattle.surface.proofs.RowLaws.{row-none, row-more}
 use Rattle.surface.proofs.marks.mark_row.Statement.{statement}
 use Rattle.surface.proofs.marks.mark_row.Tie as tie
 
 abbrev Inv-loop : tie.InvT-loop
-Inv-loop m₀ at n i₀ m i = (i ≤ n) × RowMarked m₀ m at n i
+Inv-loop m₀ at n i₀ m i = (i ≤ n) × RowWritten m₀ m at i (λ k. negℤ (pos (n - k)))
 
 abbrev μ-loop : tie.MeasureT-loop
 μ-loop m₀ at n i₀ m i = n - i
@@ -33,14 +33,14 @@ loop-less c = omega arith
 
 loop-again : tie.Need-loop-again Inv-loop μ-loop
 loop-again c = let l = c .before .before .before .before .loop in
-    (omega arith, row-more _ (l .m) _ _ _ (l .i) (l .inv .1) (omega arith) (c .before .put-occupied .ensures))
+    (omega arith, row-more _ (l .m) _ _ (l .i) _ _ (l .inv .1) (omega arith) (c .before .put-occupied .ensures) refl)
 
 same-length : tie.Need-same-length Inv-loop μ-loop
 same-length c = c .before .loop .inv .1 .long
 
 returns : tie.Need-returns Inv-loop μ-loop
 returns c = let l = c .before .loop in let a = c .before .before .args in
-    subst (λ n. RowMarked (a .m .now) (l .m) (a .at) (a .n) n) (omega arith) (l .inv .1)
+    subst (λ i. RowWritten (a .m .now) (l .m) (a .at) i (λ k. negℤ (pos (a .n - k)))) (omega arith) (l .inv .1)
 
 pub mark-row-spec : {M : Type 1} → statement M
 mark-row-spec =

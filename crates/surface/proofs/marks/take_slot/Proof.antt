@@ -1,0 +1,112 @@
+use mathlib.Core.Path.{sym, _∙_}
+use mathlib.Core.Bool.{true≢false, false≢true}
+use native.Mathlib.Omega.{arith}
+use borrow.Author.Needs.{needs}
+use borrow.Author.Tests.{not-true, not-false}
+use Rattle.surface.proofs.SlotLaws.{Sound, sound-means, falls-unsound}
+use Rattle.surface.proofs.MarkLaws.{take-alike, take-on, take-shared, take-more}
+use Rattle.surface.proofs.marks.take_slot.Statement.{statement}
+use Rattle.surface.proofs.marks.take_slot.Tie as tie
+
+id-at-requires : tie.Need-id-at-requires
+id-at-requires c κs = search needs
+
+rect-at-requires : tie.Need-rect-at-requires
+rect-at-requires c κs = search needs
+
+sound-requires : tie.Need-sound-requires
+sound-requires c κs = search needs
+
+returns : tie.Need-returns
+returns c = let s = c .before .before .before .before .before .before in record {
+  more = λ e. absurd (false≢true e);
+  falls = λ e. falls-unsound (s .args .w) (s .args .h) (s .args .t .now) (s .args .i) (s .pre .low) (s .pre .used) (sym (c .before .sound .ensures) ∙ not-true _ (c .if1 .taken));
+}
+
+-- the slot is sound
+is-sound : (c : tie.Else1) → let a = c .before .before .before .before .before .before .args in Sound (a .w) (a .h) (a .t .now) (a .i)
+is-sound c = let a = c .before .before .before .before .before .before .args in sound-means (a .w) (a .h) (a .t .now) (a .i) (sym (c .before .sound .ensures) ∙ not-false _ (c .if1 .left))
+
+cast-seen : tie.Need-cast-seen
+cast-seen c = search needs
+
+seen-requires : tie.Need-seen-requires
+seen-requires c κs = search needs
+
+same-length : tie.Need-same-length
+same-length c = search needs
+
+returns-2 : tie.Need-returns-2
+returns-2 c = let s = c .before .before .before .before .before .before .before .before .before in let a = s .args in record {
+  more = λ e. absurd (false≢true e);
+  falls = λ e. take-alike (a .w) (a .h) (a .t .now) (a .i) (a .ids .now) (a .n) (a .m .now) (s .pre) _ _ (c .before .before .before .before .before .before .id-at .ensures .0) (c .before .before .before .before .before .rect-at .ensures) (sym (c .before .seen .ensures) ∙ c .if2 .taken);
+}
+
+none-taken-requires : tie.Need-none-taken-requires
+none-taken-requires c κs = let s = c .before .before .before .before .before .before .before .before .before .before in let a = s .args in
+    take-on (a .w) (a .h) (a .t .now) (a .i) (a .ids .now) (a .n) (a .m .now) (s .pre) _ _ (c .before .before .before .before .before .before .before .id-at .ensures .0) (c .before .before .before .before .before .before .rect-at .ensures) (is-sound (c .before .before .before .before))
+
+same-length-2 : tie.Need-same-length-2
+same-length-2 c = search needs
+
+same-length-3 : tie.Need-same-length-3
+same-length-3 c = search needs
+
+returns-3 : tie.Need-returns-3
+returns-3 c = let s = c .before .before .before .before .before .before .before .before .before .before .before .before in let a = s .args in record {
+  more = λ e. absurd (false≢true e);
+  falls = λ e. take-shared (a .w) (a .h) (a .t .now) (a .i) (a .ids .now) (a .n) (a .m .now) (s .pre) _ _ (c .before .before .before .before .before .before .before .before .before .id-at .ensures .0) (c .before .before .before .before .before .before .before .before .rect-at .ensures) (is-sound (c .before .before .before .before .before .before)) (sym (c .before .none-taken .ensures) ∙ not-true _ (c .if3 .taken));
+}
+
+mark-requires : tie.Need-mark-requires
+mark-requires c κs =
+    let s = c .before .before .before .before .before .before .before .before .before .before .before .before .before in
+    let a = s .args in
+    let o = take-on (a .w) (a .h) (a .t .now) (a .i) (a .ids .now) (a .n) (a .m .now) (s .pre) _ _ (c .before .before .before .before .before .before .before .before .before .before .id-at .ensures .0) (c .before .before .before .before .before .before .before .before .before .rect-at .ensures) (is-sound (c .before .before .before .before .before .before .before)) in
+    (o .0, o .1, s .pre .wide, s .pre .widest)
+
+cast-ids : tie.Need-cast-ids
+cast-ids c = search needs
+
+mul-ids : tie.Need-mul-ids
+mul-ids c = let s = c .before .before .before .before .before .before .before .before .before .before .before .before .before .before .before in omega (arith, s .pre .room)
+
+slice-write-ids : tie.Need-slice-write-ids
+slice-write-ids c = search needs
+
+same-length-4 : tie.Need-same-length-4
+same-length-4 c = search needs
+
+same-length-5 : tie.Need-same-length-5
+same-length-5 c = search needs
+
+returns-4 : tie.Need-returns-4
+returns-4 c = let s = c .before .before .before .before .before .before .before .before .before .before .before .before .before .before .before in let a = s .args in record {
+  more = λ e. take-more (a .w) (a .h) (a .t .now) (a .i) (a .ids .now) (a .n) (a .m .now) (s .pre) _ _ (c .before .before .before .before .before .before .before .before .before .before .before .before .id-at .ensures .0) (c .before .before .before .before .before .before .before .before .before .before .before .rect-at .ensures) (is-sound (c .before .before .before .before .before .before .before .before .before))
+      (sym (c .before .before .before .before .before .before .before .seen .ensures) ∙ c .before .before .before .before .before .before .if2 .left) (sym (c .before .before .before .before .none-taken .ensures) ∙ not-false _ (c .before .before .before .if3 .left)) _ (c .before .mark .ensures);
+  falls = λ e. absurd (true≢false e);
+}
+
+pub take-slot-spec : {M : Type 1} → statement M
+take-slot-spec =
+    tie.close
+    (tie.spec
+    id-at-requires
+    rect-at-requires
+    sound-requires
+    returns
+    cast-seen
+    seen-requires
+    same-length
+    returns-2
+    none-taken-requires
+    same-length-2
+    same-length-3
+    returns-3
+    mark-requires
+    cast-ids
+    mul-ids
+    slice-write-ids
+    same-length-4
+    same-length-5
+    returns-4)
