@@ -29,7 +29,7 @@ pub fn is_less(v: i16, m: i16) -> bool
 }
 
 // The count as a weight: 0 of an occupied cell.
-fn height_of(v: i16) -> i16
+pub fn height_of(v: i16) -> i16
     ensures { λ r. ⌜ r ≡ pos (countOf v) ⌝ }
 {
     if v < 0 { 0 } else { v }

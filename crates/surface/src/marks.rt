@@ -1,37 +1,39 @@
 // "no two modules share a cell": each module's own cells are marked on a scratch, as far as none of them is marked already. That costs at most one
 // look and one store for each cell of the surface.
-ghost use Prim.Native.Nat.{_+_, _-_, _*_, _≤_, _<_};
+ghost use mathlib.Core.Path.{_≡_};
+ghost use mathlib.Core.Bool.{true};
+ghost use Prim.Native.Nat.{_+_, _*_, _≤_};
 ghost use lib.ListN.{length};
-ghost use lib.IntN.{pos, negℤ};
 ghost use Rattle.rules.specs.Surface.{slots};
-ghost use Rattle.surface.specs.Rows.{RowWritten};
+ghost use Rattle.cells.specs.Weight.{untaken};
 ghost use Rattle.surface.specs.Slots.{Gathered};
 ghost use Rattle.surface.specs.Marks.{Marked, TakenTo, Takeable, SlotTaken, AllTaken};
 use super::slots::seen;
 use super::slots::sound;
 
-// The n cells from at get the widths that remain, n down to 1.
-fn mark_row(m: &mut [i16], at: usize, n: usize)
-    requires { ⌜ (at + n ≤ length (now m)) × (n ≤ 32767) ⌝ }
-    ensures { λ _. ⌜ RowWritten (now (m .entry)) (now (m .exit)) at n (λ k. negℤ (pos (n - k))) ⌝ }
-{
-    let mut i = 0;
-    while i < n {
-        cells::put_occupied(m, at + i, n - i);
-        i += 1;
-    }
-}
-
-// The cells of the mw by mh rectangle at (x, y).
-fn mark(m: &mut [i16], w: usize, x: usize, y: usize, mw: usize, mh: usize)
+// The cells of the mw by mh rectangle at (x, y), each looked at before it is marked with the width that remains. Both walks end at the first that is
+// taken already.
+fn mark(m: &mut [i16], w: usize, x: usize, y: usize, mw: usize, mh: usize) -> bool
     requires { ⌜ (x + mw ≤ w) × ((y + mh) * w ≤ length (now m)) × (1 ≤ w) × (w ≤ 64) ⌝ }
-    ensures { λ _. ⌜ Marked w (now (m .entry)) (now (m .exit)) x y mw mh ⌝ }
+    ensures { λ r. ⌜ r ≡ untaken w (now (m .entry)) x y mw mh ⌝ }
+    ensures { λ r. ⌜ (r ≡ true → Marked w (now (m .entry)) (now (m .exit)) x y mw mh) ⌝ }
 {
+    let mut free = true;
     let mut j = 0;
-    while j < mh {
-        mark_row(m, (y + j) * w + x, mw);
+    'rows: while j < mh {
+        let mut i = 0;
+        while i < mw {
+            let at = (y + j) * w + (x + i);
+            if cells::taken_at(m, at) {
+                free = false;
+                break 'rows;
+            }
+            cells::put_occupied(m, at, mw - i);
+            i += 1;
+        }
         j += 1;
     }
+    free
 }
 
 // The used slot i, with n ids noted before it: it has to be sound, its id new and its cells not taken.
@@ -55,10 +57,9 @@ fn take_slot(
     if seen(ids, n, id as u16) {
         return false;
     }
-    if !cells::none_taken(m, w, r.x, r.y, r.w, r.h) {
+    if !mark(m, w, r.x, r.y, r.w, r.h) {
         return false;
     }
-    mark(m, w, r.x, r.y, r.w, r.h);
     ids[n] = id as u16;
     true
 }

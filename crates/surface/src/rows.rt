@@ -8,15 +8,8 @@ ghost use lib.IntN.{pos};
 ghost use Rattle.cells.specs.Weight.{takenZ, countOf, sameWeights};
 ghost use Rattle.surface.specs.Rows.{RowWritten, countedOn, CountedTo};
 
-// What a cell below one with weight a counts on from: nothing below an occupied one. `above` and `pick` are leaves so that both become selections
-// and no branch is left in a row.
-fn above(a: i16) -> i16
-    ensures { λ r. ⌜ r ≡ pos (countOf a) ⌝ }
-{
-    if a < 0 { 0 } else { a }
-}
-
-// The mark of an occupied cell, the count of an empty one.
+// The mark of an occupied cell, the count of an empty one. A leaf, as `cells::height_of` is, so that both become selections and no branch is left in a
+// row.
 fn pick(m: i16, c: i16) -> i16
     ensures { λ r. ⌜ r ≡ cond (takenZ m) m c ⌝ }
 {
@@ -27,7 +20,7 @@ fn counted_on(m: i16, a: i16) -> i16
     requires { ⌜ countOf a ≤ 64 ⌝ }
     ensures { λ r. ⌜ r ≡ countedOn m a ⌝ }
 {
-    let c = above(a) + 1;
+    let c = cells::height_of(a) + 1;
     pick(m, c)
 }
 

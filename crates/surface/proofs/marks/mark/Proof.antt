@@ -1,58 +1,186 @@
-use mathlib.Core.Path.{subst}
-use Prim.Native.Nat.{_+_, _*_, _≤_, _-_}
+-- The cells of a module, looked at and marked in one walk, as far as none is taken. Assumes nothing.
+use mathlib.Core.Path.{_≡_, refl, sym, ap, _∙_, subst}
+use mathlib.Core.Bool.{Bool, true, false, not, false≢true}
+use mathlib.Core.List.{List}
+use Prim.Native.Nat.{ℕ, _+_, _*_, _≤_, _<_, _-_}
+use native.Mathlib.Nat.{le-refl}
 use native.Mathlib.Omega.{arith}
-use lib.ListN.{length}
+use borrow.Author.Count.{below-none, below-more}
+use lib.ListN.{length, set}
+use lib.IntN.{ℤ, pos, negℤ}
+use Rattle.rules.specs.Tests.{every}
+use Rattle.rules.specs.Surface.{cell}
+use Rattle.rules.proofs.Tests.{every-yes, every-no}
+use Rattle.cells.specs.Weight.{takenZ, untaken}
+use Rattle.cells.proofs.Laws.{cell-in}
+use Rattle.surface.specs.Rows.{RowWritten}
 use Rattle.surface.specs.Marks.{Marked}
-use Rattle.surface.proofs.MarkLaws.{rect-none, rect-more, row-in}
+use Rattle.surface.proofs.RowLaws.{row-none, row-more}
+use Rattle.surface.proofs.MarkLaws.{rect-none, rect-more}
 use Rattle.surface.proofs.marks.mark.Statement.{statement}
 use Rattle.surface.proofs.marks.mark.Tie as tie
 
+-- cell (x, y) is not taken; row m of the rectangle
+abbrev open-at : ℕ → List ℤ → ℕ → ℕ → Bool
+open-at w s x y = not (takenZ (cell w s x y))
+
+abbrev open-row : ℕ → List ℤ → ℕ → ℕ → ℕ → ℕ → Bool
+open-row w s x y mw m = every mw (λ i. open-at w s (x + i) (y + m))
+
+-- in a row: m₀ is the scratch before it
 abbrev Inv-loop : tie.InvT-loop
-Inv-loop m₀ w x y mw mh j₀ m j = (j ≤ mh) × Marked w m₀ m x y mw j
+Inv-loop m₀ w x y mw mh free₀ j i₀ m free i =
+    (i ≤ mw) × (free ≡ true) × RowWritten m₀ m ((y + j) * w + x) i (λ k. negℤ (pos (mw - k))) × ((k : ℕ) → k < i → open-at w m₀ (x + k) (y + j) ≡ true)
 
 abbrev μ-loop : tie.MeasureT-loop
-μ-loop m₀ w x y mw mh j₀ m j = mh - j
+μ-loop m₀ w x y mw mh free₀ j i₀ m free i = mw - i
 
-loop-holds : tie.Need-loop-holds Inv-loop μ-loop
-loop-holds c = (omega arith, rect-none _ _ _ _ _)
+abbrev Inv-rows : tie.InvT-rows
+Inv-rows m₀ w x y mw mh free₀ j₀ m free j = (j ≤ mh) × (free ≡ true) × Marked w m₀ m x y mw j × ((k : ℕ) → k < j → open-row w m₀ x y mw k ≡ true)
 
--- the row that is written lies in the scratch
-on : (c : tie.After-mark-row-arg Inv-loop μ-loop) →
-    let a = c .before .before .before .args in
-    let j = c .before .before .loop .j in
-    ((a .y + j) * a .w + a .x + a .mw ≤ length (a .m .now)) × (a .y + j ≤ length (a .m .now))
-on c = let s = c .before .before .before in let a = s .args in
-    row-in (a .w) (a .x) (a .y) (a .mw) (a .mh) _ (length (a .m .now)) (s .pre .0) (s .pre .1) (s .pre .2) (c .before .loop-test .taken)
+abbrev μ-rows : tie.MeasureT-rows
+μ-rows m₀ w x y mw mh free₀ j₀ m free j = mh - j
 
-add-mark-row : tie.Need-add-mark-row Inv-loop μ-loop
-add-mark-row c = omega (arith, on c)
+rows-holds : tie.Need-rows-holds Inv-loop μ-loop Inv-rows μ-rows
+rows-holds c = (omega arith, refl, rect-none _ _ _ _ _, below-none _)
 
-mul-mark-row : tie.Need-mul-mark-row Inv-loop μ-loop
-mul-mark-row c = omega (arith, on c)
+loop-holds : tie.Need-loop-holds Inv-loop μ-loop Inv-rows μ-rows
+loop-holds c = (omega arith, c .before .rows .inv .1, row-none _ _ _, below-none _)
 
-add-mark-row-2 : tie.Need-add-mark-row-2 Inv-loop μ-loop
-add-mark-row-2 c = omega (arith, on c)
+-- the cell that is looked at is on the surface, and its mark is small
+on : (c : tie.In-loop Inv-loop μ-loop Inv-rows μ-rows) →
+    let a = c .before .before .before .before .args in
+    ((a .y + c .before .before .before .rows .j) * a .w + (a .x + c .before .loop .i) < length (a .m .now)) × (a .y + c .before .before .before .rows .j < length (a .m .now)) × (a .mw ≤ 64)
+on c = let s = c .before .before .before .before in let a = s .args in
+    let k = cell-in (a .w) (a .x) (a .y) (a .mw) (a .mh) _ _ (length (a .m .now)) (s .pre .0) (s .pre .1) (c .loop-test .taken) (c .before .before .rows-test .taken) in
+    (k .0, k .1, omega (arith, s .pre .0, s .pre .3))
 
-mark-row-requires : tie.Need-mark-row-requires Inv-loop μ-loop
-mark-row-requires c κs = omega (arith, on c, c .before .before .loop .inv .1 .long)
+-- the scratch is as long as it was
+long : (c : tie.In-loop Inv-loop μ-loop Inv-rows μ-rows) → length (c .before .loop .m) ≡ length (c .before .before .before .before .args .m .now)
+long c = c .before .loop .inv .2 .long ∙ c .before .before .before .rows .inv .2 .long
 
-add-j : tie.Need-add-j Inv-loop μ-loop
+-- and the cell as it was
+as-was : (c : tie.In-loop Inv-loop μ-loop Inv-rows μ-rows) →
+    let a = c .before .before .before .before .args in
+    let x = a .x + c .before .loop .i in
+    let y = a .y + c .before .before .before .rows .j in
+    (cell (a .w) (c .before .loop .m) x y ≡ cell (a .w) (c .before .before .before .rows .m) x y) × (cell (a .w) (c .before .before .before .rows .m) x y ≡ cell (a .w) (a .m .now) x y)
+as-was c =
+    let s = c .before .before .before .before in
+    (c .before .loop .inv .2 .after _ (omega arith), c .before .before .before .rows .inv .2 .below _ _ (omega (arith, s .pre .0, c .loop-test .taken)) (le-refl _))
+
+add-at : tie.Need-add-at Inv-loop μ-loop Inv-rows μ-rows
+add-at c = omega (arith, on c)
+
+mul-at : tie.Need-mul-at Inv-loop μ-loop Inv-rows μ-rows
+mul-at c = omega (arith, on c)
+
+add-at-2 : tie.Need-add-at-2 Inv-loop μ-loop Inv-rows μ-rows
+add-at-2 c = omega (arith, on c)
+
+add-at-3 : tie.Need-add-at-3 Inv-loop μ-loop Inv-rows μ-rows
+add-at-3 c = omega (arith, on c)
+
+taken-at-requires : tie.Need-taken-at-requires Inv-loop μ-loop Inv-rows μ-rows
+taken-at-requires c κs = omega (arith, on (c .before), long (c .before))
+
+sub-put-occupied : tie.Need-sub-put-occupied Inv-loop μ-loop Inv-rows μ-rows
+sub-put-occupied c = omega (arith, c .before .before .before .before .before .loop .inv .0)
+
+put-occupied-requires : tie.Need-put-occupied-requires Inv-loop μ-loop Inv-rows μ-rows
+put-occupied-requires c κs = omega (arith, on (c .before .before .before .before), long (c .before .before .before .before))
+
+add-i : tie.Need-add-i Inv-loop μ-loop Inv-rows μ-rows
+add-i c = omega (arith, on (c .before .before .before .before .before .before), c .before .before .before .before .before .before .loop-test .taken)
+
+loop-less : tie.Need-loop-less Inv-loop μ-loop Inv-rows μ-rows
+loop-less c = omega (arith, c .before .before .before .before .before .before .loop-test .taken)
+
+loop-again : tie.Need-loop-again Inv-loop μ-loop Inv-rows μ-rows
+loop-again c =
+    let l = c .before .before .before .before .before .before .before .loop in
+    let r = c .before .before .before .before .before .before .before .before .before .rows in
+    let a = c .before .before .before .before .before .before .before .before .before .before .args in
+    let v = negℤ (pos (a .mw - l .i)) in
+    let q : (a .y + r .j) * a .w + (a .x + l .i) ≡ (a .y + r .j) * a .w + a .x + l .i = omega arith in (
+      omega (arith, c .before .before .before .before .before .before .loop-test .taken),
+      l .inv .1,
+      row-more (r .m) (l .m) _ ((a .y + r .j) * a .w + a .x) (l .i) _ v (l .inv .2) (omega (arith, on (c .before .before .before .before .before .before) .0, long (c .before .before .before .before .before .before))) (c .before .put-occupied .ensures ∙ ap (λ k. set (l .m) k v) q) refl,
+      below-more _ _ (l .inv .3) (ap not (ap takenZ (sym (as-was (c .before .before .before .before .before .before) .0)) ∙ sym (c .before .before .before .before .taken-at .ensures) ∙ c .before .before .before .if1 .left)),
+    )
+
+add-j : tie.Need-add-j Inv-loop μ-loop Inv-rows μ-rows
 add-j c = omega arith
 
-loop-less : tie.Need-loop-less Inv-loop μ-loop
-loop-less c = omega arith
+rows-less : tie.Need-rows-less Inv-loop μ-loop Inv-rows μ-rows
+rows-less c = omega arith
 
-loop-again : tie.Need-loop-again Inv-loop μ-loop
-loop-again c = let l = c .before .before .before .before .loop in let s = c .before .before .before .before .before in
-    (omega arith, rect-more _ _ (l .m) _ _ _ _ (l .j) (s .pre .0) (l .inv .1) (c .before .mark-row .ensures))
+rows-again : tie.Need-rows-again Inv-loop μ-loop Inv-rows μ-rows
+rows-again c =
+    let l = c .before .loop in
+    let r = c .before .before .before .rows in
+    let s = c .before .before .before .before in
+    let a = s .args in
+    let f : ℕ → ℤ = λ k. negℤ (pos (a .mw - k)) in
+    let q : l .i ≡ a .mw = omega (arith, l .inv .0) in (
+      omega arith,
+      l .inv .1,
+      rect-more (a .w) (a .m .now) (r .m) (l .m) (a .x) (a .y) (a .mw) (r .j) (s .pre .0) (r .inv .2) (subst (λ k. RowWritten (r .m) (l .m) ((a .y + r .j) * a .w + a .x) k f) q (l .inv .2)),
+      below-more _ _ (r .inv .3) (every-yes (a .mw) (λ i. open-at (a .w) (a .m .now) (a .x + i) (a .y + r .j))
+          (λ k h. ap (λ z. not (takenZ z)) (sym (r .inv .2 .below (a .x + k) (a .y + r .j) (omega (arith, s .pre .0)) (le-refl _))) ∙ l .inv .3 k (omega arith))),
+    )
 
-same-length : tie.Need-same-length Inv-loop μ-loop
-same-length c = c .before .loop .inv .1 .long
+same-length : tie.Need-same-length Inv-loop μ-loop Inv-rows μ-rows
+same-length c = c .before .rows .inv .2 .long
 
-returns : tie.Need-returns Inv-loop μ-loop
-returns c = let l = c .before .loop in let a = c .before .before .args in
-    subst (λ j. Marked (a .w) (a .m .now) (l .m) (a .x) (a .y) (a .mw) j) (omega arith) (l .inv .1)
+returns : tie.Need-returns Inv-loop μ-loop Inv-rows μ-rows
+unfolding untaken
+returns c =
+    let r = c .before .rows in
+    let a = c .before .before .args in (
+      r .inv .1 ∙ sym (every-yes (a .mh) (open-row (a .w) (a .m .now) (a .x) (a .y) (a .mw)) (λ k h. r .inv .3 k (omega arith))),
+      (λ _. subst (λ j. Marked (a .w) (a .m .now) (r .m) (a .x) (a .y) (a .mw) j) (omega (arith, r .inv .0)) (r .inv .2)),
+    )
+
+same-length-2 : tie.Need-same-length-2 Inv-loop μ-loop Inv-rows μ-rows
+same-length-2 c = long (c .before .before .before)
+
+returns-2 : tie.Need-returns-2 Inv-loop μ-loop Inv-rows μ-rows
+unfolding untaken
+returns-2 c =
+    let r = c .before .before .before .before .before .before .rows in
+    let a = c .before .before .before .before .before .before .before .args in
+    let w = as-was (c .before .before .before) in (
+      sym (every-no (a .mh) (open-row (a .w) (a .m .now) (a .x) (a .y) (a .mw)) (r .j) (c .before .before .before .before .before .rows-test .taken)
+          (every-no (a .mw) (λ i. open-at (a .w) (a .m .now) (a .x + i) (a .y + r .j)) (c .before .before .before .before .loop .i) (c .before .before .before .loop-test .taken)
+          (ap not (ap takenZ (sym (w .0 ∙ w .1)) ∙ sym (c .before .taken-at .ensures) ∙ c .if1 .taken)))),
+      (λ e. absurd (false≢true e)),
+    )
 
 pub mark-spec : {M : Type 1} → statement M
 mark-spec =
-    tie.close (tie.spec Inv-loop μ-loop loop-holds add-mark-row mul-mark-row add-mark-row-2 mark-row-requires add-j loop-less loop-again same-length returns)
+    tie.close
+    (tie.spec
+    Inv-loop
+    μ-loop
+    Inv-rows
+    μ-rows
+    rows-holds
+    loop-holds
+    add-at
+    mul-at
+    add-at-2
+    add-at-3
+    taken-at-requires
+    sub-put-occupied
+    put-occupied-requires
+    add-i
+    loop-less
+    loop-again
+    add-j
+    rows-less
+    rows-again
+    same-length
+    returns
+    same-length-2
+    returns-2)

@@ -42,9 +42,12 @@ returns-2 c = let s = c .before .before .before .before .before .before .before 
   falls = λ e. take-alike (a .w) (a .h) (a .t .now) (a .i) (a .ids .now) (a .n) (a .m .now) (s .pre) _ _ (c .before .before .before .before .before .before .id-at .ensures .0) (c .before .before .before .before .before .rect-at .ensures) (sym (c .before .seen .ensures) ∙ c .if2 .taken);
 }
 
-none-taken-requires : tie.Need-none-taken-requires
-none-taken-requires c κs = let s = c .before .before .before .before .before .before .before .before .before .before in let a = s .args in
-    take-on (a .w) (a .h) (a .t .now) (a .i) (a .ids .now) (a .n) (a .m .now) (s .pre) _ _ (c .before .before .before .before .before .before .before .id-at .ensures .0) (c .before .before .before .before .before .before .rect-at .ensures) (is-sound (c .before .before .before .before))
+mark-requires : tie.Need-mark-requires
+mark-requires c κs =
+    let s = c .before .before .before .before .before .before .before .before .before .before in
+    let a = s .args in
+    let o = take-on (a .w) (a .h) (a .t .now) (a .i) (a .ids .now) (a .n) (a .m .now) (s .pre) _ _ (c .before .before .before .before .before .before .before .id-at .ensures .0) (c .before .before .before .before .before .before .rect-at .ensures) (is-sound (c .before .before .before .before)) in
+    (o .0, o .1, s .pre .wide, s .pre .widest)
 
 same-length-2 : tie.Need-same-length-2
 same-length-2 c = search needs
@@ -53,23 +56,16 @@ same-length-3 : tie.Need-same-length-3
 same-length-3 c = search needs
 
 returns-3 : tie.Need-returns-3
-returns-3 c = let s = c .before .before .before .before .before .before .before .before .before .before .before .before in let a = s .args in record {
+returns-3 c = let s = c .before .before .before .before .before .before .before .before .before .before .before .before .before in let a = s .args in record {
   more = λ e. absurd (false≢true e);
-  falls = λ e. take-shared (a .w) (a .h) (a .t .now) (a .i) (a .ids .now) (a .n) (a .m .now) (s .pre) _ _ (c .before .before .before .before .before .before .before .before .before .id-at .ensures .0) (c .before .before .before .before .before .before .before .before .rect-at .ensures) (is-sound (c .before .before .before .before .before .before)) (sym (c .before .none-taken .ensures) ∙ not-true _ (c .if3 .taken));
+  falls = λ e. take-shared (a .w) (a .h) (a .t .now) (a .i) (a .ids .now) (a .n) (a .m .now) (s .pre) _ _ (c .before .before .before .before .before .before .before .before .before .before .id-at .ensures .0) (c .before .before .before .before .before .before .before .before .before .rect-at .ensures) (is-sound (c .before .before .before .before .before .before .before)) (sym (c .before .before .mark .ensures .0) ∙ not-true _ (c .if3 .taken));
 }
-
-mark-requires : tie.Need-mark-requires
-mark-requires c κs =
-    let s = c .before .before .before .before .before .before .before .before .before .before .before .before .before in
-    let a = s .args in
-    let o = take-on (a .w) (a .h) (a .t .now) (a .i) (a .ids .now) (a .n) (a .m .now) (s .pre) _ _ (c .before .before .before .before .before .before .before .before .before .before .id-at .ensures .0) (c .before .before .before .before .before .before .before .before .before .rect-at .ensures) (is-sound (c .before .before .before .before .before .before .before)) in
-    (o .0, o .1, s .pre .wide, s .pre .widest)
 
 cast-ids : tie.Need-cast-ids
 cast-ids c = search needs
 
 mul-ids : tie.Need-mul-ids
-mul-ids c = let s = c .before .before .before .before .before .before .before .before .before .before .before .before .before .before .before in omega (arith, s .pre .room)
+mul-ids c = let s = c .before .before .before .before .before .before .before .before .before .before .before .before .before in omega (arith, s .pre .room)
 
 slice-write-ids : tie.Need-slice-write-ids
 slice-write-ids c = search needs
@@ -81,11 +77,16 @@ same-length-5 : tie.Need-same-length-5
 same-length-5 c = search needs
 
 returns-4 : tie.Need-returns-4
-returns-4 c = let s = c .before .before .before .before .before .before .before .before .before .before .before .before .before .before .before in let a = s .args in record {
-  more = λ e. take-more (a .w) (a .h) (a .t .now) (a .i) (a .ids .now) (a .n) (a .m .now) (s .pre) _ _ (c .before .before .before .before .before .before .before .before .before .before .before .before .id-at .ensures .0) (c .before .before .before .before .before .before .before .before .before .before .before .rect-at .ensures) (is-sound (c .before .before .before .before .before .before .before .before .before))
-      (sym (c .before .before .before .before .before .before .before .seen .ensures) ∙ c .before .before .before .before .before .before .if2 .left) (sym (c .before .before .before .before .none-taken .ensures) ∙ not-false _ (c .before .before .before .if3 .left)) _ (c .before .mark .ensures);
-  falls = λ e. absurd (true≢false e);
-}
+returns-4 c =
+    let s = c .before .before .before .before .before .before .before .before .before .before .before .before .before in
+    let a = s .args in
+    let free = not-false _ (c .if3 .left) in
+    let k = c .before .before .mark .ensures in
+    record {
+      more = λ e. take-more (a .w) (a .h) (a .t .now) (a .i) (a .ids .now) (a .n) (a .m .now) (s .pre) _ _ (c .before .before .before .before .before .before .before .before .before .before .id-at .ensures .0) (c .before .before .before .before .before .before .before .before .before .rect-at .ensures) (is-sound (c .before .before .before .before .before .before .before))
+          (sym (c .before .before .before .before .before .seen .ensures) ∙ c .before .before .before .before .if2 .left) (sym (k .0) ∙ free) _ (k .1 free);
+      falls = λ e. absurd (true≢false e);
+    }
 
 pub take-slot-spec : {M : Type 1} → statement M
 take-slot-spec =
@@ -99,11 +100,10 @@ take-slot-spec =
     seen-requires
     same-length
     returns-2
-    none-taken-requires
+    mark-requires
     same-length-2
     same-length-3
     returns-3
-    mark-requires
     cast-ids
     mul-ids
     slice-write-ids

@@ -13,13 +13,13 @@ use Rattle.surface.proofs.RowLaws.{one-more}
 use Rattle.surface.proofs.rows.counted_on.Statement.{statement}
 use Rattle.surface.proofs.rows.counted_on.Tie as tie
 
-above-requires : tie.Need-above-requires
-above-requires c κs = search needs
+height-of-requires : tie.Need-height-of-requires
+height-of-requires c κs = search needs
 
 -- the sum that is picked
-sum-is : (c : tie.After-above) → toZ w16 (ofZ w16 (c .above .result)) +ℤ pos 1 ≡ pos (suc (countOf (c .before .args .a)))
+sum-is : (c : tie.After-height-of) → toZ w16 (ofZ w16 (c .height-of .result)) +ℤ pos 1 ≡ pos (suc (countOf (c .before .args .a)))
 sum-is c =
-    ap (λ z. z +ℤ pos 1) (toZ-ofZ w16 _ (record { sfits = c .above .ok }) ∙ c .above .ensures ∙ ap (λ z. pos (countOf z)) (toZ-ofZ w16 (c .before .args .a) (c .before .fits .a)))
+    ap (λ z. z +ℤ pos 1) (toZ-ofZ w16 _ (record { sfits = c .height-of .ok }) ∙ c .height-of .ensures ∙ ap (λ z. pos (countOf z)) (toZ-ofZ w16 (c .before .args .a) (c .before .fits .a)))
     ∙ one-more (countOf (c .before .args .a))
 
 add-c : tie.Need-add-c
@@ -36,4 +36,4 @@ returns c =
     ∙ ap₂ (λ m v. cond (takenZ m) m v) (toZ-ofZ w16 (s .args .m) (s .fits .m)) (toZ-ofZ w16 _ (add-c (c .before)) ∙ sum-is (c .before))
 
 pub counted-on-spec : {M : Type 1} → statement M
-counted-on-spec = tie.close (tie.spec above-requires add-c pick-requires returns)
+counted-on-spec = tie.close (tie.spec height-of-requires add-c pick-requires returns)
