@@ -1,6 +1,6 @@
 -- THE ROWS THAT ARE PASSED OVER HAVE NO ENTRY WITH ROOM FOR THE MODULE. Assumes nothing.
 use mathlib.Core.Path.{_≡_, refl, sym, ap, _∙_}
-use mathlib.Core.Bool.{true, false, not, true≢false}
+use mathlib.Core.Bool.{true, not}
 use mathlib.Core.Logic.{⊎-elim}
 use mathlib.Core.List.{List, [], _∷_, List·Memᴰ, Memᴰ·of-map}
 use Prim.Native.Nat.{ℕ, suc, _+_, _-_, _≤_, _<_}
@@ -15,15 +15,15 @@ use Rattle.rules.specs.Surface.{occupied, cell, Standing}
 use Rattle.rules.specs.Requests.{fits}
 use Rattle.rules.specs.declared.Rect.{Rect}
 use Rattle.rules.proofs.Tests.{and-left, and-right, fails, all-yes}
-use Rattle.cells.specs.Weight.{takenZ, countOf, widthOf}
+use Rattle.cells.specs.Weight.{takenZ, countOf}
 use Rattle.listing.specs.Row.{Entry}
 use Rattle.listing.specs.Meaning.{IsEntry}
 use Rattle.listing.specs.Listed.{heightOf, support, entryRect, entriesIn, rectsIn}
 use Rattle.listing.proofs.Meaning.{entries-mem}
 use Rattle.listing.proofs.List.{drawn}
-use Rattle.listing.proofs.Cells.{height-past, height-taken, taken-is, count-is, width-strides}
+use Rattle.listing.proofs.Cells.{height-past, height-taken, taken-is, count-is}
 use Rattle.choice.specs.Best.{better, bestOf}
-use Rattle.choice.specs.Room.{noneFits, strideOf}
+use Rattle.choice.specs.Room.{noneFits}
 use Rattle.choice.specs.declared.Best.{Best}
 use Rattle.choice.proofs.Costs.{fits-wide, fits-high, better-small}
 
@@ -36,16 +36,6 @@ best-unfit W H rule w h b (d ∷ l) e =
     let p : b ≡ better W H rule w h b d = better-small W H rule w h b d (not-true _ (and-right (all (λ e. not (fits w h e)) l) (not (fits w h d)) e)) in
     best-unfit W H rule w h b l (and-left (all (λ e. not (fits w h e)) l) (not (fits w h d)) e) ∙ ap (λ a. bestOf W H rule w h a l) p
 
--- ---- how far a walk goes on
-
-pub stride-taken : (z : ℤ) → ltZ z (pos 0) ≡ true → widthOf z ≡ strideOf z
-stride-taken (pos n) e = let h : n < 0 = ltb-true n 0 e in absurd (omega arith)
-stride-taken (negsuc n) e = refl
-
-pub stride-empty : (z : ℤ) → ltZ z (pos 0) ≡ false → 1 ≡ strideOf z
-stride-empty (pos n) e = refl
-stride-empty (negsuc n) e = absurd (true≢false e)
-
 -- ---- cells side by side that are high enough. f has a row's heights, m is the height asked for, n the width
 
 -- column c is empty, and high enough
@@ -56,12 +46,6 @@ pub record Tall (f : ℕ → ℕ) (m c : ℕ) : Type 0 where
 -- all columns of l .. r - 1 are
 abbrev AllTall : (ℕ → ℕ) → ℕ → ℕ → ℕ → Type 0
 AllTall f m l r = (c : ℕ) → l ≤ c → c < r → Tall f m c
-
--- d columns on from x, none of them high enough. Past the last column is the end
-pub record Skips (f : ℕ → ℕ) (m W x d : ℕ) : Type 0 where
-  pub one : 1 ≤ d
-  pub inside : x + d ≤ W + 1
-  pub low : (c : ℕ) → x ≤ c → c < x + d → Tall f m c → ⊥
 
 -- WHAT THE WALK KNOWS AT COLUMN x: at most `run` columns before x are high enough side by side up to x, and nowhere before x are n
 pub record Runs (f : ℕ → ℕ) (m n run x : ℕ) : Type 0 where
@@ -85,22 +69,19 @@ module _ {f : ℕ → ℕ} {m n : ℕ} where
         (eq-or-lt-of-le c);
   }
 
--- columns that are not high enough: no stretch ends among them, and the run begins anew behind them
-module _ {f : ℕ → ℕ} {m W x d : ℕ} (s : Skips f m W x d) where
-  ends : (l e : ℕ) → AllTall f m l e → x < e → e ≤ x + d → e ≤ l
-  ends l e a p q = elim (decLt l e) [
-    | yes h ↦ absurd (s .low (e - 1) (omega arith) (omega arith) (a (e - 1) (omega arith) (omega arith)))
-    | no h ↦ omega arith
-  ]
-
-  pub runs-skip : {n : ℕ} (run : ℕ) → Runs f m n run x → Runs f m n 0 (x + d)
-  runs-skip run r = record {
+  -- a column that is not high enough: no stretch ends there, and the run begins anew behind it
+  pub runs-anew : (run x : ℕ) → Runs f m n run x → (Tall f m x → ⊥) → Runs f m n 0 (x + 1)
+  runs-anew run x r s = record {
     few = omega arith;
-    back = λ l a. omega (arith, ends l (x + d) a (omega (arith, s .one)) (le-refl _));
-    none = λ l k a b c t. elim (decLt x (l + k)) [
-      | yes h ↦ omega (arith, ends l (l + k) t h c)
-      | no h ↦ r .none l k a b (omega arith) t
+    back = λ l a. elim (decLt l (x + 1)) [
+      | yes h ↦ absurd (s (a x (omega arith) (omega arith)))
+      | no h ↦ omega arith
     ];
+    none = λ l k a b c t.
+        ⊎-elim
+        (λ (e : l + k ≡ x + 1). s (t x (omega arith) (omega arith)))
+        (λ (e : l + k < x + 1). r .none l k a b (omega arith) t)
+        (eq-or-lt-of-le c);
   }
 
 -- ---- the cells of row y on a standing surface
@@ -109,26 +90,13 @@ module _ (W H : ℕ) (s : List ℤ) (t : List ℕ) (S : Standing W H s t) (y : �
   abbrev f : ℕ → ℕ
   f = heightOf (occupied t) W y
 
-  -- A WEIGHT BELOW m GOES OVER COLUMNS THAT ARE NOT HIGH ENOUGH
-  pub low-skips : (m x : ℕ) → x < W → ltZ (cell W s x y) (pos m) ≡ true → Skips f m W x (strideOf (cell W s x y))
-  low-skips m x px = go (cell W s x y) refl
+  -- A WEIGHT BELOW m IS NOT HIGH ENOUGH
+  pub too-low : (m x : ℕ) → x < W → ltZ (cell W s x y) (pos m) ≡ true → Tall f m x → ⊥
+  too-low m x px = go (cell W s x y) refl
     where
-      go : (z : ℤ) → cell W s x y ≡ z → ltZ z (pos m) ≡ true → Skips f m W x (strideOf z)
-      go (pos n) e q = record {
-        one = le-refl 1;
-        inside = omega arith;
-        low = λ c a b h.
-            let i : f c ≡ n = ap f (let i : c ≡ x = omega arith in i) ∙ sym (count-is W H s t S x y px py) ∙ ap countOf e in
-            omega (arith, h .enough, ltb-true n m q);
-      }
-      go (negsuc n) e q =
-          let taken : occupied t x y ≡ true = sym (taken-is W H s t S x y px py) ∙ ap takenZ e in
-          let r = width-strides W H s t S x y px py taken (suc n) (sym (ap widthOf e)) in
-          record {
-            one = r .one;
-            inside = omega (arith, r .inside);
-            low = λ c a b h. omega (arith, h .free, height-taken (occupied t) W y c (r .over c a b));
-          }
+      go : (z : ℤ) → cell W s x y ≡ z → ltZ z (pos m) ≡ true → Tall f m x → ⊥
+      go (pos n) e q h = omega (arith, h .enough, ltb-true n m q, sym (count-is W H s t S x y px py) ∙ ap countOf e)
+      go (negsuc n) e q h = omega (arith, h .free, height-taken (occupied t) W y x (sym (taken-is W H s t S x y px py) ∙ ap takenZ e))
 
   -- no entry of the row with room, none of the row's rectangles
   none-fits : (w h : ℕ) → ((e : Entry) → List·Memᴰ e (entriesIn (occupied t) W H y) → w ≤ suc (e .right) - e .left → h ≤ e .high → ⊥)

@@ -1,8 +1,7 @@
 -- WHICH ROWS NEED NO STAIRCASE: where no entry of a row has room for the module, the row changes nothing. w and h are the module's size.
 use mathlib.Core.Bool.{Bool, not}
 use mathlib.Core.List.{List}
-use Prim.Native.Nat.{ℕ, suc}
-use lib.IntN.{ℤ, pos, negsuc}
+use Prim.Native.Nat.{ℕ}
 use Rattle.rules.specs.Tests.{all}
 use Rattle.rules.specs.Requests.{fits}
 use Rattle.rules.specs.declared.Rect.{Rect}
@@ -10,8 +9,3 @@ use Rattle.rules.specs.declared.Rect.{Rect}
 -- no entry of the list has room for the module
 unfoldable pub noneFits : ℕ → ℕ → List Rect → Bool
 noneFits w h l = all (λ e. not (fits w h e)) l
-
--- how many columns a walk goes on from a cell: an occupied one's weight is "the width that remains to the right"
-abbrev pub strideOf : ℤ → ℕ
-strideOf (pos n) = 1
-strideOf (negsuc n) = suc n

@@ -9,7 +9,7 @@ ghost use Rattle.rules.specs.Requests.{fits, cost as costOf, rulePlace};
 ghost use Rattle.listing.specs.Row.{entry, entryAt, rows};
 ghost use Rattle.listing.specs.Listed.{entryRect, rectsIn, listed, Scans, Drawn};
 ghost use Rattle.choice.specs.Best.{Entered, better, bestOf, unbeaten, placeIn, choiceOf};
-ghost use Rattle.choice.specs.Room.{noneFits, strideOf};
+ghost use Rattle.choice.specs.Room.{noneFits};
 ghost use Rattle.choice.specs.declared.Best.the-variants.{Nothing};
 use rules::Rect;
 
@@ -119,15 +119,8 @@ fn best_in(
     best
 }
 
-// How many columns a walk goes on from a cell of weight z: "Skipping an occupied run by its weight along one row is right."
-fn stride(z: i16) -> usize
-    ensures { λ r. ⌜ r ≡ strideOf z ⌝ }
-{
-    if z < 0 { cells::width_of(z) } else { 1 }
-}
-
 // Whether row y has mw cells side by side that hold mh or more. An entry with room for the module has: where there are none the row's staircase
-// is not walked.
+// is not walked. It looks at cell after cell: a jump by a weight would have to wait for that weight.
 fn row_has_room(
     w: usize,
     h: usize,
@@ -152,7 +145,7 @@ fn row_has_room(
         let z = weights[at + x];
         if z < least {
             run = 0;
-            x += stride(z);
+            x += 1;
         } else {
             run += 1;
             if mw <= run {

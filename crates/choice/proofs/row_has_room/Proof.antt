@@ -13,8 +13,7 @@ use Rattle.rules.specs.Surface.{occupied, cell}
 use Rattle.cells.proofs.Laws.{plain}
 use Rattle.listing.specs.Listed.{heightOf}
 use Rattle.listing.proofs.Cells.{number-in}
-use Rattle.choice.specs.Room.{strideOf}
-use Rattle.choice.proofs.Room.{Skips, Runs, runs-start, runs-more, runs-skip, low-skips, too-high, too-short}
+use Rattle.choice.proofs.Room.{Runs, runs-start, runs-more, runs-anew, too-low, too-high, too-short}
 use borrow.Author.Needs.{needs}
 use Rattle.choice.proofs.row_has_room.Statement.{statement}
 use Rattle.choice.proofs.row_has_room.Tie as tie
@@ -43,24 +42,13 @@ on c =
 abbrev read : (c : tie.After-z Inv-loop μ-loop) → ℤ
 read c = let a = start (looped c) .args in cell (a .w) (a .weights .now) (looped c .loop .x) (a .y)
 
--- it is too low, and the walk goes on by its stride
+-- it is too low
 low : (c : tie.Then2 Inv-loop μ-loop) → ltZ (read (c .before)) (pos (start (looped (c .before)) .args .mh)) ≡ true
 low c =
     let counted = looped (c .before) .before .counted in
     let z = read (c .before) in
     plain w16 (λ v. ltZ v (pos (start (looped (c .before)) .args .mh)) ≡ true) {z = z} (record { sfits = c .before .z .given })
     (subst (λ v. ltZ (toZ w16 (ofZ w16 z)) v ≡ true) (toZ-ofZ w16 _ (record { sfits = counted .ok }) ∙ counted .ensures) (c .if2 .taken))
-
-skips : (c : tie.After-stride Inv-loop μ-loop) → let l = looped (c .before .before) in let a = start l .args in
-    Skips (heightOf (occupied (a .table .now)) (a .w) (a .y)) (a .mh) (a .w) (l .loop .x) (c .stride .result)
-skips c =
-    let r = c .before .before in
-    let s = start (looped r) in
-    let a = s .args in
-    let x = looped r .loop .x in
-    subst (Skips (heightOf (occupied (a .table .now)) (a .w) (a .y)) (a .mh) (a .w) x)
-    (sym (plain w16 (λ v. c .stride .result ≡ strideOf v) {z = read r} (record { sfits = r .z .given }) (c .stride .ensures)))
-    (low-skips (a .w) (a .h) (a .weights .now) (a .table .now) (s .pre .0) (a .y) (s .pre .1) (a .mh) x (r .before .loop-test .taken) (low (c .before)))
 
 add-if1 : tie.Need-add-if1 Inv-loop μ-loop
 add-if1 c = search needs
@@ -88,17 +76,19 @@ mul-z c = omega (arith, on c)
 shared-slice-copy-out-z : tie.Need-shared-slice-copy-out-z Inv-loop μ-loop
 shared-slice-copy-out-z c = on c .0
 
-stride-requires : tie.Need-stride-requires Inv-loop μ-loop
-stride-requires c κs = search needs
-
 add-x : tie.Need-add-x Inv-loop μ-loop
-add-x c = omega (arith, skips c .inside, start (looped (c .before .before)) .pre .0 .widest)
+add-x c = omega (arith, c .before .before .loop-test .taken, start (looped (c .before)) .pre .0 .widest)
 
 loop-less : tie.Need-loop-less Inv-loop μ-loop
-loop-less c = omega (arith, skips c .one, skips c .inside, c .before .before .before .loop-test .taken)
+loop-less c = omega (arith, c .before .before .loop-test .taken)
 
 loop-again : tie.Need-loop-again Inv-loop μ-loop
-loop-again c = runs-skip (skips c) (looped (c .before .before) .loop .run) (looped (c .before .before) .loop .inv)
+loop-again c =
+    let r = c .before in
+    let s = start (looped r) in
+    let a = s .args in
+    let l = looped r .loop in
+    runs-anew (l .run) (l .x) (l .inv) (too-low (a .w) (a .h) (a .weights .now) (a .table .now) (s .pre .0) (a .y) (s .pre .1) (a .mh) (l .x) (r .before .loop-test .taken) (low c))
 
 add-run : tie.Need-add-run Inv-loop μ-loop
 add-run c = let z = c .before in omega (arith, looped z .loop .inv .few, z .before .loop-test .taken, start (looped z) .pre .0 .widest)
@@ -135,7 +125,6 @@ row-has-room-spec =
     add-z
     mul-z
     shared-slice-copy-out-z
-    stride-requires
     add-x
     loop-less
     loop-again
