@@ -1,7 +1,7 @@
 #!/bin/sh
 # Runs every test: the brute force and its own tests, the comparison of the definitions with it, the proofs, the exported calls against the brute
-# force, the library as it is installed, and the program. Exit status 0 and a last line `N passed, 0 failed` when all went well. `run-tests.sh long`
-# compares twenty times as many cases.
+# force and against plain C, the library as it is installed, the program, and the drawing tool. Exit status 0 and a last line `N passed, 0 failed` when
+# all went well. `run-tests.sh long` compares twenty times as many cases.
 set -eu
 cd "$(dirname "$0")"
 . tests/need.sh
@@ -44,5 +44,11 @@ sh tests/library/run.sh "$build/library"
 
 echo "== the program against the brute force's"
 sh tests/program/run.sh target/bin/freelist "$build/brute" "$build/program"
+
+echo "== the drawing tool"
+sh tests/picture/run.sh target/bin/freelist "$build/picture"
+
+echo "== the exported calls against plain C"
+sh bench/run.sh target/staticlib/libcalls.a "$build/bench" compare
 
 echo "$passed"

@@ -1,7 +1,7 @@
 #!/bin/sh
 # The cost of the library beside plain C, as a table.
-# run.sh ARCHIVE DIRECTORY: the library, and where to build. Exit status 0 when
-# both gave the same results and bytes.
+# run.sh ARCHIVE DIRECTORY [compare]: the library, and where to build. Exit status
+# 0 when both gave the same results and bytes; `compare` does only that.
 set -eu
 here=$(dirname "$0")
 . "$here/../tests/need.sh"
@@ -23,6 +23,7 @@ gcc $flags -o "$build/bench" "$here/bench.c" "$host/damage.c" "$host/lending.c" 
     "$host/surfaces.c" "$here/../tests/brute/brute.c" "$build/plain.o" "$build/setup.o" "$archive"
 
 "$build/bench" compare 1 1500 >&2
+[ "${3:-}" != compare ] || exit 0
 
 # One run; callgrind counts inside the calls only and writes a file each time one
 # of them is left. (With one option more for each call it forgets some of them,

@@ -5,7 +5,7 @@
  * heap, no global and no file, and keeps nothing between calls: everything is
  * in the buffers that you lend. Calls on different buffers may run in different
  * threads at once. freelist_clear takes at most 9 KiB of stack, the other calls
- * 18 KiB (measured by the tests).
+ * 10 KiB (measured by the tests).
  *
  * ---- What you lend -------------------------------------------------------
  *
@@ -64,8 +64,8 @@
  * ---- What you get --------------------------------------------------------
  *
  * A result is code + 2^16 * first count + 2^32 * second count. The lowest code
- * that applies is given. With any code but 0 both counts are 0 and no buffer is
- * written to.
+ * that applies is given. With any code but 0 both counts are 0 and the buffers
+ * are as they were.
  *
  *     code  given exactly when                              by
  *       0   done                                            all

@@ -1,4 +1,4 @@
-# need PROGRAM PACKAGE..: installs Debian's packages where the program is missing. Sourced by the two commands.
+# need PROGRAM PACKAGE..: installs Debian's packages where the program is missing. Sourced by the test scripts.
 need() {
     program=$1
     shift

@@ -8,7 +8,7 @@
 
 #include "freelist.h"
 
-enum { STACK = 1 << 18, CLEAR = 9 * 1024, OTHERS = 18 * 1024, W = 64, H = 64, SLOTS = 256, REQUESTS = 512 };
+enum { STACK = 1 << 18, CLEAR = 9 * 1024, OTHERS = 10 * 1024, W = 64, H = 64, SLOTS = 256, REQUESTS = 512 };
 
 static _Alignas(16) uint8_t stack[STACK];
 static uint8_t weights[2 * W * H], table[8 * SLOTS], requests[8 * REQUESTS], answers[8 * REQUESTS], room[8 * W * H];
