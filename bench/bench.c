@@ -226,6 +226,13 @@ static void upright(void)
             lay(x, y, 1, 1 + x / 2 % h);
 }
 
+/* A single cell in every second row: the same scanned rows for each W. */
+static void same_rows(void)
+{
+    for (unsigned y = 2; y < H; y += 2)
+        lay(7 * y % W, y, 1, 1);
+}
+
 static const struct { const char *name; unsigned w, h; void (*make)(void); } worst[] = {
     { "list, empty", 64, 64, nothing },
     { "list, checkerboard", 16, 16, checkerboard }, { "list, checkerboard", 32, 16, checkerboard },
@@ -234,7 +241,9 @@ static const struct { const char *name; unsigned w, h; void (*make)(void); } wor
     { "list, diagonal, weights rising", 64, 64, rising_diagonal },
     { "list, hanging stairs", 64, 64, hanging_stairs },
     { "list, stairs on a floor", 64, 64, stairs_on_a_floor },
-    { "list, thin lying", 64, 64, lying }, { "list, thin upright", 64, 64, upright } };
+    { "list, thin lying", 64, 64, lying }, { "list, thin upright", 64, 64, upright },
+    { "list, 32 scanned rows", 8, 64, same_rows }, { "list, 32 scanned rows", 16, 64, same_rows },
+    { "list, 32 scanned rows", 32, 64, same_rows }, { "list, 32 scanned rows", 64, 64, same_rows } };
 
 static void add_surface(const char *list, const char *check)
 {
