@@ -10,6 +10,7 @@
 #include "plain.h"
 #include "../include/freelist.h"
 #include "../tests/host/damage.h"
+#include "../tests/host/laid.h"
 #include "../tests/host/numbers.h"
 #include "../tests/host/surfaces.h"
 
@@ -34,31 +35,15 @@ struct lent {
     uint8_t weights[2 * 64 * 64], table[8 * 256], requests[8 * 512], answers[8 * 512], room[8 * 64 * 64];
 };
 
-static uint64_t on_plain(struct lent *l)
+static uint64_t on(unsigned side, struct lent *l)
 {
-    unsigned cells = 2 * l->w * l->h, slots = sizeof l->table;
-    switch (l->call) {
-    case CLEAR: return plain_clear(l->w, l->h, l->weights, cells, l->table, slots);
-    case CHECK: return plain_check(l->w, l->h, l->weights, cells, l->table, slots);
-    case LIST: return plain_list(l->w, l->h, l->weights, cells, l->table, slots, l->room, l->room_len);
-    default: return plain_run(l->w, l->h, l->weights, cells, l->table, slots,
-                              l->requests, l->requests_len, l->answers, l->requests_len);
-    }
+    static const struct four sides[SIDES] = {
+        [PLAIN] = { plain_clear, plain_check, plain_run, plain_list },
+        [LIBRARY] = { freelist_clear, freelist_check, freelist_run, freelist_list } };
+    uint8_t *p[BUFFERS] = { l->weights, l->table, l->requests, l->answers, l->room };
+    uint64_t len[BUFFERS] = { 2 * l->w * l->h, sizeof l->table, l->requests_len, l->requests_len, l->room_len };
+    return make_call(&sides[side], l->call, l->w, l->h, p, len);
 }
-
-static uint64_t on_library(struct lent *l)
-{
-    unsigned cells = 2 * l->w * l->h, slots = sizeof l->table;
-    switch (l->call) {
-    case CLEAR: return freelist_clear(l->w, l->h, l->weights, cells, l->table, slots);
-    case CHECK: return freelist_check(l->w, l->h, l->weights, cells, l->table, slots);
-    case LIST: return freelist_list(l->w, l->h, l->weights, cells, l->table, slots, l->room, l->room_len);
-    default: return freelist_run(l->w, l->h, l->weights, cells, l->table, slots,
-                                 l->requests, l->requests_len, l->answers, l->requests_len);
-    }
-}
-
-static uint64_t on(unsigned side, struct lent *l) { return side == PLAIN ? on_plain(l) : on_library(l); }
 
 /* ---- rows of the table ------------------------------------------------------ */
 
@@ -95,45 +80,13 @@ static void add_row(const char *name, unsigned n, int is_shown)
 /* ---- surfaces ---------------------------------------------------------------- */
 
 static struct call_case c;
-static unsigned W, H, modules, taken_cells;
-static uint8_t taken[64][64];
+static unsigned W, H;
 
 static void begin(unsigned w, unsigned h)
 {
     W = w;
     H = h;
-    modules = taken_cells = 0;
-    memset(taken, 0, sizeof taken);
-    memset(c.lent[TABLE].byte, 0, 8 * 256);
-    c.w = w;
-    c.h = h;
-    c.lent[WEIGHTS].len = 2 * w * h;
-    c.lent[TABLE].len = 8 * 256;
-}
-
-static int can_lay(unsigned x, unsigned y, unsigned w, unsigned h)
-{
-    if (modules == 256 || x + w > W || y + h > H)
-        return 0;
-    for (unsigned j = y; j < y + h; j++)
-        for (unsigned i = x; i < x + w; i++)
-            if (taken[j][i])
-                return 0;
-    return 1;
-}
-
-/* The module in the next slot, where it can be laid. */
-static void lay(unsigned x, unsigned y, unsigned w, unsigned h)
-{
-    if (!can_lay(x, y, w, h))
-        return;
-    uint8_t *s = c.lent[TABLE].byte + 8 * modules++;
-    uint8_t slot[8] = { (uint8_t)(modules % 256), (uint8_t)(modules / 256), (uint8_t)x, (uint8_t)y,
-                        (uint8_t)w, (uint8_t)h, 0, 0 };
-    memcpy(s, slot, 8);
-    for (unsigned j = y; j < y + h; j++)
-        memset(&taken[j][x], 1, w);
-    taken_cells += w * h;
+    lay_none(&c, w, h);
 }
 
 static const struct lent *painted(void)
@@ -153,10 +106,10 @@ static void occupy(unsigned percent)
 {
     unsigned goal = W * H * percent / 100, dense = percent > 50;
     for (unsigned limit = dense ? W / 4 : W / 8 + 2; limit > 0; limit--)
-        for (unsigned tries = 0; tries < 2000 && taken_cells < goal; tries++) {
+        for (unsigned tries = 0; tries < 2000 && laid_cells() < goal; tries++) {
             unsigned x = below(W), y = below(H), least = dense ? (limit + 1) / 2 : 1;
             unsigned w = from_to(least, limit), h = from_to(least, limit);
-            if (taken_cells + w * h <= goal + 3)
+            if (laid_cells() + w * h <= goal + 3)
                 lay(x, y, w, h);
         }
 }
@@ -210,22 +163,6 @@ static void stairs_on_a_floor(void)
             lay(x, y, 1, 1);
 }
 
-static void lying(void)
-{
-    unsigned w = W / 8;
-    for (unsigned y = 1; y < H; y += 2)
-        for (unsigned x = y / 2 % 2; x < W; x += w)
-            lay(x, y, w - 1, 1);
-}
-
-static void upright(void)
-{
-    unsigned h = H / 8;
-    for (unsigned y = 1; y < H; y += h + 1)
-        for (unsigned x = 0; x < W; x += 2)
-            lay(x, y, 1, 1 + x / 2 % h);
-}
-
 /* A single cell in every second row: the same scanned rows for each W. */
 static void same_rows(void)
 {
@@ -241,7 +178,7 @@ static const struct { const char *name; unsigned w, h; void (*make)(void); } wor
     { "list, diagonal, weights rising", 64, 64, rising_diagonal },
     { "list, hanging stairs", 64, 64, hanging_stairs },
     { "list, stairs on a floor", 64, 64, stairs_on_a_floor },
-    { "list, thin lying", 64, 64, lying }, { "list, thin upright", 64, 64, upright },
+    { "list, thin lying", 64, 64, lay_lying }, { "list, thin upright", 64, 64, lay_upright },
     { "list, 32 scanned rows", 8, 64, same_rows }, { "list, 32 scanned rows", 16, 64, same_rows },
     { "list, 32 scanned rows", 32, 64, same_rows }, { "list, 32 scanned rows", 64, 64, same_rows } };
 
@@ -366,7 +303,7 @@ static void add_small_blocks(unsigned side)
     occupy(50);
     const struct lent *l = painted();
     unsigned x = 0, y = side / 2;
-    while (taken[y][x])
+    while (is_laid(x, y))
         x++;
     add_block_of("run, empty block", l, 0, 0);
     add_block_of("run, 1 place 2×2, rule 1", l, 1, request(1, 1, 999, 2, 2, 0, 0));
@@ -409,7 +346,7 @@ static uint64_t both_on(const struct lent *l, const char *name)
 {
     static struct lent a, b;
     a = b = *l;
-    uint64_t ra = on_plain(&a), rb = on_library(&b);
+    uint64_t ra = on(PLAIN, &a), rb = on(LIBRARY, &b);
     if (!is_same(&a, &b, ra, rb)) {
         if (differ++ == 0)
             fprintf(stderr, "bench: differs: %s, %u×%u: %llx %llx\n", name, l->w, l->h,

@@ -19,7 +19,7 @@ rm -f "$build"/calls.out*
 again="-Dplain_clear=setup_clear -Dplain_check=setup_check -Dplain_run=setup_run -Dplain_list=setup_list"
 gcc $flags -c -o "$build/plain.o" "$here/plain.c"
 gcc $flags $again -c -o "$build/setup.o" "$here/plain.c"
-gcc $flags -o "$build/bench" "$here/bench.c" "$host/damage.c" "$host/lending.c" "$host/numbers.c" \
+gcc $flags -o "$build/bench" "$here/bench.c" "$host/damage.c" "$host/laid.c" "$host/lending.c" "$host/numbers.c" \
     "$host/surfaces.c" "$here/../tests/brute/brute.c" "$build/plain.o" "$build/setup.o" "$archive"
 
 "$build/bench" compare 1 1500 >&2

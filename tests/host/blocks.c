@@ -17,12 +17,8 @@ static const struct call_case *on;      /* the surface that they are meant for *
 
 static void add(unsigned op, unsigned rule, unsigned id, unsigned w, unsigned h, unsigned b6, unsigned b7)
 {
-    unsigned q[8] = { op, rule, id & 255, id >> 8, w, h, b6, b7 };
-    if (drawn == LENGTH)
-        return;
-    for (unsigned i = 0; i < 8; i++)
-        requests[8 * drawn + i] = (uint8_t)q[i];
-    drawn++;
+    if (drawn < LENGTH)
+        put_request(requests + 8 * drawn++, op, rule, id, w, h, b6, b7);
 }
 
 /* An id in the table, or a small one, or any. */

@@ -22,35 +22,32 @@ static const struct call_case *current;         /* of the library, for the handl
 
 /* ---- the two calls ------------------------------------------------------ */
 
+static uint64_t call_on(const struct four *f, const struct call_case *c, uint8_t *const p[BUFFERS])
+{
+    uint64_t len[BUFFERS];
+    for (unsigned i = 0; i < BUFFERS; i++)
+        len[i] = c->lent[i].len;
+    return make_call(f, c->call, c->w, c->h, p, len);
+}
+
 uint64_t brute_on(struct call_case *c)
 {
+    static const struct four brute = { brute_clear, brute_check, brute_run, brute_list };
     uint8_t *p[BUFFERS];
-    const struct bytes *b = c->lent;
     for (unsigned i = 0; i < BUFFERS; i++)
-        p[i] = b[i].null ? NULL : c->lent[i].byte;
-    switch (c->call) {
-    case CLEAR: return brute_clear(c->w, c->h, p[0], b[0].len, p[1], b[1].len);
-    case CHECK: return brute_check(c->w, c->h, p[0], b[0].len, p[1], b[1].len);
-    case LIST: return brute_list(c->w, c->h, p[0], b[0].len, p[1], b[1].len, p[ROOM], b[ROOM].len);
-    default: return brute_run(c->w, c->h, p[0], b[0].len, p[1], b[1].len, p[REQUESTS],
-                              b[REQUESTS].len, p[ANSWERS], b[ANSWERS].len);
-    }
+        p[i] = c->lent[i].null ? NULL : c->lent[i].byte;
+    return call_on(&brute, c, p);
 }
 
 static uint64_t library_on(const struct call_case *c, uint8_t *const p[BUFFERS])
 {
-    const struct bytes *b = c->lent;
-    switch (c->call) {
-    case CLEAR: return freelist_clear(c->w, c->h, p[0], b[0].len, p[1], b[1].len);
-    case CHECK: return freelist_check(c->w, c->h, p[0], b[0].len, p[1], b[1].len);
-    case LIST: return freelist_list(c->w, c->h, p[0], b[0].len, p[1], b[1].len, p[ROOM], b[ROOM].len);
+    static const struct four library = {
+        .clear = freelist_clear, .check = freelist_check, .list = freelist_list,
 #ifdef HAVE_RUN
-    default: return freelist_run(c->w, c->h, p[0], b[0].len, p[1], b[1].len, p[REQUESTS],
-                                 b[REQUESTS].len, p[ANSWERS], b[ANSWERS].len);
-#else
-    default: abort();
+        .run = freelist_run,
 #endif
-    }
+    };
+    return call_on(&library, c, p);
 }
 
 /* ---- a case that differs, in full --------------------------------------- */

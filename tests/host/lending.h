@@ -22,6 +22,19 @@ struct call_case {
     struct bytes lent[BUFFERS];
 };
 
+/* The four calls, of whoever has them. */
+struct four {
+    uint64_t (*clear)(uint64_t, uint64_t, uint8_t *, uint64_t, uint8_t *, uint64_t);
+    uint64_t (*check)(uint64_t, uint64_t, const uint8_t *, uint64_t, const uint8_t *, uint64_t);
+    uint64_t (*run)(uint64_t, uint64_t, uint8_t *, uint64_t, uint8_t *, uint64_t,
+                    const uint8_t *, uint64_t, uint8_t *, uint64_t);
+    uint64_t (*list)(uint64_t, uint64_t, const uint8_t *, uint64_t, const uint8_t *, uint64_t,
+                     uint8_t *, uint64_t);
+};
+
+uint64_t make_call(const struct four *f, unsigned call, uint64_t w, uint64_t h,
+                   uint8_t *const p[BUFFERS], const uint64_t len[BUFFERS]);
+
 extern const char *const call_names[CALLS], *const buffer_names[BUFFERS];
 
 int is_lent(unsigned call, unsigned buffer);

@@ -23,14 +23,17 @@ void cleared(struct call_case *c, unsigned w, unsigned h, unsigned slots)
     asked = 0;
 }
 
-void ask(unsigned op, unsigned rule, unsigned id, unsigned w, unsigned h, unsigned b6, unsigned b7)
+void put_request(uint8_t *to, unsigned op, unsigned rule, unsigned id, unsigned w, unsigned h, unsigned b6, unsigned b7)
 {
     unsigned q[8] = { op, rule, id & 255, id >> 8, w, h, b6, b7 };
-    if (asked == 512)
-        return;
     for (unsigned i = 0; i < 8; i++)
-        block[8 * asked + i] = (uint8_t)q[i];
-    asked++;
+        to[i] = (uint8_t)q[i];
+}
+
+void ask(unsigned op, unsigned rule, unsigned id, unsigned w, unsigned h, unsigned b6, unsigned b7)
+{
+    if (asked < 512)
+        put_request(block + 8 * asked++, op, rule, id, w, h, b6, b7);
 }
 
 void run_asked(struct call_case *c)

@@ -15,6 +15,9 @@ void large_surface(struct call_case *c, unsigned shape);
 /* A cleared surface. */
 void cleared(struct call_case *c, unsigned w, unsigned h, unsigned slots);
 
+/* A request's eight bytes. */
+void put_request(uint8_t *to, unsigned op, unsigned rule, unsigned id, unsigned w, unsigned h, unsigned b6, unsigned b7);
+
 /* One request more for the block, and the block run by the brute force. */
 void ask(unsigned op, unsigned rule, unsigned id, unsigned w, unsigned h, unsigned b6, unsigned b7);
 void run_asked(struct call_case *c);

@@ -105,29 +105,27 @@ unsigned count_modules(const struct surface *s)
     return count;
 }
 
-unsigned count_free_cells(const struct surface *s)
+/* The sum of what each cell counts. */
+static unsigned sum_cells(const struct surface *s, unsigned (*of)(const struct surface *s, unsigned x, unsigned y))
 {
     unsigned count = 0;
     for (unsigned y = 0; y < s->H; y++)
         for (unsigned x = 0; x < s->W; x++)
-            count += s->weight[y][x] > 0;
+            count += of(s, x, y);
     return count;
 }
+
+static unsigned count_free(const struct surface *s, unsigned x, unsigned y) { return s->weight[y][x] > 0; }
+static unsigned count_corner(const struct surface *s, unsigned x, unsigned y) { return corner(s, x, y); }
+
+unsigned count_free_cells(const struct surface *s) { return sum_cells(s, count_free); }
+unsigned count_corners(const struct surface *s) { return sum_cells(s, count_corner); }
 
 unsigned count_scanned_rows(const struct surface *s)
 {
     unsigned count = 0;
     for (unsigned y = 0; y < s->H; y++)
         count += scanned(s, y);
-    return count;
-}
-
-unsigned count_corners(const struct surface *s)
-{
-    unsigned count = 0;
-    for (unsigned y = 0; y < s->H; y++)
-        for (unsigned x = 0; x < s->W; x++)
-            count += corner(s, x, y);
     return count;
 }
 
@@ -146,11 +144,4 @@ static unsigned count_maximal_from(const struct surface *s, unsigned x, unsigned
     return count;
 }
 
-unsigned count_maximal(const struct surface *s)
-{
-    unsigned count = 0;
-    for (unsigned y = 0; y < s->H; y++)
-        for (unsigned x = 0; x < s->W; x++)
-            count += count_maximal_from(s, x, y);
-    return count;
-}
+unsigned count_maximal(const struct surface *s) { return sum_cells(s, count_maximal_from); }

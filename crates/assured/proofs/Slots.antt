@@ -12,9 +12,9 @@ use Rattle.rules.specs.declared.Rect.{Rect}
 use Rattle.rules.specs.declared.Step.the-variants.{Done}
 use Rattle.rules.proofs.Tests.{not-both, least-is}
 use Rattle.modules.specs.Change.{Placing, Taking}
-use Rattle.demands.proofs.Cases.{Came, came}
-use Rattle.demands.proofs.Cases.Came.{refused, placed, removed, put, exchanged}
-use Rattle.demands.proofs.Stands.{record-put, record-free}
+use Rattle.modules.proofs.Cases.{Came, came}
+use Rattle.modules.proofs.Cases.Came.{refused, placed, removed, put, exchanged}
+use Rattle.modules.proofs.Left.{record-put, record-free}
 use Rattle.demands.proofs.Refusals.{done-rect, done-refused}
 use Rattle.assured.specs.Chain.{LowestFree, SlotOfId}
 

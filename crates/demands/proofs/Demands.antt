@@ -24,6 +24,7 @@ use Rattle.demands.specs.Frame.{Framed}
 use Rattle.demands.specs.History.{Module, moduleAt, taken, history, historyWeight}
 use Rattle.demands.specs.Told.{HasModule, Told}
 use Rattle.demands.specs.Sessions.{Session, joined, Cut, HostSession, codeOfResult}
+use Rattle.modules.proofs.Left as L
 use Rattle.demands.proofs.Stands as S
 use Rattle.demands.proofs.Refusals as R
 use Rattle.demands.proofs.Kept as K
@@ -141,13 +142,13 @@ clear-stands bad W H s t = S.cleared-stands bad W H t
 
 -- what stood before a request stands after it; so after every k requests of a block, and the weights are the table's
 pub request-stands : (W H : ℕ) (q : List ℕ) (a : State) → Standing W H (a .weights) (a .table) → Standing W H (next W H q a .weights) (next W H q a .table)
-request-stands = S.next-stands
+request-stands = L.next-stands
 
 pub block-stands : (W H : ℕ) (b : List ℕ) (a : State) → Standing W H (a .weights) (a .table) → (k : ℕ) → Standing W H (after W H b a k .weights) (after W H b a k .table)
-block-stands = S.after-stands
+block-stands = L.after-stands
 
 pub block-weights : (W H : ℕ) (b : List ℕ) (a : State) → Standing W H (a .weights) (a .table) → (k : ℕ) → after W H b a k .weights ≡ fresh W H (after W H b a k .table)
-block-weights = S.after-fresh
+block-weights = L.after-fresh
 
 -- so a session's surface stands, and a further block is refused for its own length or that of its answers alone
 pub session-stands : (W H n : ℕ) {s : List ℤ} {t b a : List ℕ} {c : ℕ} → Session W H n s t b a c → Standing W H s t
@@ -172,7 +173,7 @@ pub cleared-afresh : (bad : Bool) (W H : ℕ) (s : List ℤ) (t : List ℕ) → 
 cleared-afresh bad W H s t e b n k l x y hx hy =
     let a = started (clearedWeights W H) (clearedTable t) in
     A.cell-history (history b (after W H b a n .answers) k) (after W H b a k .table) (cleared-told bad W H s t e b n k l) W H
-    (after W H b a k .weights) (S.after-stands W H b a (clear-stands bad W H s t e) k) x y hx hy
+    (after W H b a k .weights) (L.after-stands W H b a (clear-stands bad W H s t e) k) x y hx hy
 
 -- after the first k requests of a session's next block: requests b were before them
 pub after-each-request : (W H n : ℕ) {s : List ℤ} {t b a : List ℕ} {c : ℕ} → Session W H n s t b a c →
@@ -242,4 +243,4 @@ request-frame = F.frame
 pub block-frame : (W H : ℕ) (b : List ℕ) (a : State) → Standing W H (a .weights) (a .table) → (k i : ℕ) (r : Rect) → stepOf W H (after W H b a k .table) (request b k) ≡ Done i r →
     Framed W H (request b k) i r (after W H b a k) (after W H b a (suc k))
 unfolding after
-block-frame W H b a d k = F.frame W H (request b k) (after W H b a k) (S.after-stands W H b a d k)
+block-frame W H b a d k = F.frame W H (request b k) (after W H b a k) (L.after-stands W H b a d k)

@@ -22,9 +22,9 @@ use Rattle.modules.proofs.Changes.{put-changed, take-changed}
 use Rattle.modules.proofs.Exchange.{exchange-placing, exchange-table}
 use Rattle.demands.specs.Frame.{bare, MayChange, Framed}
 use Rattle.demands.specs.Frame.MayChange.{ofModule, ofOld}
-use Rattle.demands.proofs.Cases.{Came, without, came}
-use Rattle.demands.proofs.Cases.Came.{refused, placed, removed, put, exchanged}
-use Rattle.demands.proofs.Stands.{StateStands, record-put, record-free}
+use Rattle.modules.proofs.Cases.{Came, without, came}
+use Rattle.modules.proofs.Cases.Came.{refused, placed, removed, put, exchanged}
+use Rattle.modules.proofs.Left.{StateStands, record-put, record-free}
 use Rattle.demands.proofs.Refusals.{done-refused, done-rect, done-slot}
 
 module _ (W H : ℕ) (q : List ℕ) (a : State) (i : ℕ) (r : Rect) (e : stepOf W H (a .table) q ≡ Done i r) where

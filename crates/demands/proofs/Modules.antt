@@ -28,9 +28,9 @@ use Rattle.modules.proofs.Changes.{slot-fits, put-more, taken-alike, taken-less
 use Rattle.modules.proofs.Exchange.{id-gone, exchange-placing, exchange-table}
 use Rattle.demands.specs.History.{Module, moduleAt, others, noted, history}
 use Rattle.demands.specs.Told.{HasModule, Told}
-use Rattle.demands.proofs.Cases.{Came, without, came}
-use Rattle.demands.proofs.Cases.Came.{refused, placed, removed, put, exchanged}
-use Rattle.demands.proofs.Stands.{StateStands, record-put, record-free, after-stands}
+use Rattle.modules.proofs.Cases.{Came, without, came}
+use Rattle.modules.proofs.Cases.Came.{refused, placed, removed, put, exchanged}
+use Rattle.modules.proofs.Left.{StateStands, record-put, record-free, after-stands}
 use Rattle.demands.proofs.Refusals.{refused-keeps, done-rect, done-refused}
 use Rattle.demands.proofs.Cuts.{request-left, request-right}
 use Rattle.demands.proofs.Frames.{next-table}

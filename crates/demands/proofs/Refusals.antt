@@ -25,9 +25,9 @@ use Rattle.meaning.proofs.Rectangles.{empty-is}
 use Rattle.meaning.proofs.Lowest.{rising, Lowest, first-lowest, first-over, first-stop, judging-lowest}
 use Rattle.modules.proofs.Changes.{take-occupied}
 use Rattle.demands.specs.Sound.{Sound, SlotForIt}
-use Rattle.demands.proofs.Cases.{Came, came, empty-parts, Asking, asking, judged, Asked, asked, step-refused, step-accepted, step-for, ground-for, taking, then-false}
-use Rattle.demands.proofs.Cases.Came.{refused, placed, removed, put, exchanged}
-use Rattle.demands.proofs.Cases.Asked.{place, remove, pin, exchange}
+use Rattle.modules.proofs.Cases.{Came, came, empty-parts, Asking, asking, judged, Asked, asked, step-refused, step-accepted, step-for, ground-for, taking, then-false}
+use Rattle.modules.proofs.Cases.Came.{refused, placed, removed, put, exchanged}
+use Rattle.modules.proofs.Cases.Asked.{place, remove, pin, exchange}
 
 -- ---- a refusal changes nothing
 

@@ -19,7 +19,8 @@ use Rattle.demands.specs.History.{history, historyWeight}
 use Rattle.demands.specs.Told.{Told}
 use Rattle.demands.specs.Sessions.{Session, joined, Cut}
 use Rattle.demands.specs.Sessions.Session.{cleared, block}
-use Rattle.demands.proofs.Stands.{StateStands, cleared-stands, cleared-free, after-stands}
+use Rattle.modules.proofs.Left.{StateStands, after-stands}
+use Rattle.demands.proofs.Stands.{cleared-stands, cleared-free}
 use Rattle.demands.proofs.Cuts.{behind, requests-both, after-right, after-behind}
 use Rattle.demands.proofs.Modules.{answers-long, told-after}
 use Rattle.demands.proofs.Afresh.{cell-history}

@@ -11,7 +11,7 @@ use lib.Dec.{eqb}
 use lib.IntN.{ℤ}
 use lib.ListN.{length, getD}
 use Rattle.rules.specs.Tests.{every}
-use Rattle.rules.specs.Surface.{Standing, covers, slots, byte, idOf, rectOf, recordOf, freeRecord, freeSlot, usedSlot, withRecord, holds, occupied, cell, fresh, soundSlot}
+use Rattle.rules.specs.Surface.{Standing, covers, slots, byte, idOf, rectOf, recordOf, freeRecord, freeSlot, usedSlot, withRecord, holds, occupied, cell, fresh}
 use Rattle.rules.specs.Empties.{cellsEmpty}
 use Rattle.rules.specs.Requests.{hasId, idPlaced}
 use Rattle.rules.specs.declared.Rect.{Rect}
@@ -21,8 +21,9 @@ use Rattle.table.proofs.Laws.{free-byte, bytes-free}
 use Rattle.modules.specs.Column.{column}
 use Rattle.modules.specs.Walk.{On, Shallow, HoldsAll, Added, Removed}
 use Rattle.modules.specs.Change.{Placing, Taking, Reached, Spared}
-use Rattle.modules.proofs.Records.{Alike, alike-back, alike-slots, alike-free, alike-id, alike-holds, alike-sound, record-byte, record-alike}
-use Rattle.modules.proofs.Stand.{Sound, sound-told, told-sound, slots-told, told-slots, sameId, ids-told, told-ids, apart-told, told-apart, SoundTable, standing-fresh, standing-table, fresh-standing, standing-of}
+use Rattle.modules.proofs.Records.{Alike, alike-back, alike-slots, alike-free, alike-id, alike-holds, record-byte, record-alike}
+use Rattle.modules.proofs.Stand.{Sound, sound-told, told-sound, slots-told, sameId, same-told, apart-told, SoundTable, standing-fresh, standing-table, fresh-standing, standing-of}
+use Rattle.modules.proofs.Written.{written-sound}
 use Rattle.modules.proofs.More.{OneMore, holds-here, occupied-more, occupied-less, added-fresh, removed-fresh, fresh-holds, frame, changed}
 use Rattle.modules.proofs.Plane.{shallow}
 
@@ -74,43 +75,12 @@ module _ (W H : ℕ) (s : List ℤ) (t : List ℕ) (i low high : ℕ) (r : Rect)
   pub put-more : OneMore t put i r
   put-more = record { slot = p .slot; alike = put-alike; unused = p .unused; used = put-used; rect = put-rect; alone = empty-at (occupied t) r (p .empty) }
 
-  put-sound : (j : ℕ) → j < slots put → freeSlot put j ≡ false → soundSlot W H put j ≡ true
-  put-sound j l f = go (ℕ-discrete j i)
-    where
-      go : Dec (j ≡ i) → soundSlot W H put j ≡ true
-      go (yes q) =
-          ap (soundSlot W H put) q
-          ∙ told-sound W H put i (record {
-            id = omega (arith, put-id, p .some);
-            place = subst (On W H) (sym put-rect) (p .place);
-            spare = and-both (eq-eqb (byte put i 6) 0 (put-byte 6 (omega arith))) (eq-eqb (byte put i 7) 0 (put-byte 7 (omega arith)));
-          })
-      go (no ne) =
-          alike-sound put-alike j ne W H
-          ∙ slots-told W H t (standing-table W H s t (p .standing) .slotsAre) j (omega (arith, alike-slots put-alike)) (sym (alike-free put-alike j ne) ∙ f)
-
   -- no other slot has the new id
   new-alone : (j : ℕ) → j < slots put → (j ≡ i → ⊥) → usedSlot put j ≡ true → idOf put j ≡ idOf put i → ⊥
   unfolding idPlaced
   new-alone j l ne f e =
       true≢false (sym (and-both (ap not (sym (alike-free put-alike j ne)) ∙ f) (eq-eqb (idOf t j) (low + 256 * high) (sym (alike-id put-alike j ne) ∙ e ∙ put-id)))
       ∙ any-none (slots t) (hasId t (low + 256 * high)) (p .new) j (omega (arith, alike-slots put-alike)))
-
-  put-ids : (a b : ℕ) → a < b → b < slots put → sameId put a b ≡ false
-  put-ids a b l h = go (ℕ-discrete a i) (ℕ-discrete b i)
-    where
-      parts : sameId put a b ≡ true → (usedSlot put a ≡ true) × (usedSlot put b ≡ true) × (idOf put a ≡ idOf put b)
-      parts q =
-          let f = and-left (usedSlot put a && usedSlot put b) (eqb (idOf put a) (idOf put b)) q in
-          (and-left (usedSlot put a) (usedSlot put b) f, and-right (usedSlot put a) (usedSlot put b) f, eqb-true (idOf put a) (idOf put b) (and-right (usedSlot put a && usedSlot put b) (eqb (idOf put a) (idOf put b)) q))
-
-      go : Dec (a ≡ i) → Dec (b ≡ i) → sameId put a b ≡ false
-      go (yes q) d = fails (sameId put a b) (λ e. let w = parts e in new-alone b h (λ z. omega arith) (w .1) (sym (w .2) ∙ ap (idOf put) q))
-      go (no ne) (yes q) = fails (sameId put a b) (λ e. let w = parts e in new-alone a (omega arith) ne (w .0) (w .2 ∙ ap (idOf put) q))
-      go (no na) (no nb) =
-          ap₂ (λ f g. not f && not g && eqb (idOf put a) (idOf put b)) (alike-free put-alike a na) (alike-free put-alike b nb)
-          ∙ ap₂ (λ d e. usedSlot t a && usedSlot t b && eqb d e) (alike-id put-alike a na) (alike-id put-alike b nb)
-          ∙ ids-told t (standing-table W H s t (p .standing) .idsAre) a b (omega (arith, alike-slots put-alike)) (omega (arith, alike-slots put-alike)) (λ z. omega arith)
 
   -- no other module has a cell of the new one
   place-alone : (x y j : ℕ) → j < slots put → (j ≡ i → ⊥) → holds put x y i ≡ true → holds put x y j ≡ true → ⊥
@@ -119,38 +89,16 @@ module _ (W H : ℕ) (s : List ℤ) (t : List ℕ) (i low high : ℕ) (r : Rect)
       true≢false (sym (sym (alike-holds put-alike j ne x y) ∙ b)
       ∙ any-none (slots t) (holds t x y) (empty-at (occupied t) r (p .empty) x y (sym (holds-here t put i r put-more x y) ∙ a)) j (omega (arith, alike-slots put-alike)))
 
-  put-apart : (x y : ℕ) → x < W → y < H → (a b : ℕ) → a < b → b < slots put → (holds put x y a && holds put x y b) ≡ false
-  put-apart x y hx hy a b l h = go (ℕ-discrete a i) (ℕ-discrete b i)
-    where
-      ha : (holds put x y a && holds put x y b) ≡ true → holds put x y a ≡ true
-      ha e = and-left (holds put x y a) (holds put x y b) e
-
-      hb : (holds put x y a && holds put x y b) ≡ true → holds put x y b ≡ true
-      hb e = and-right (holds put x y a) (holds put x y b) e
-
-      go : Dec (a ≡ i) → Dec (b ≡ i) → (holds put x y a && holds put x y b) ≡ false
-      go (yes q) d = fails (holds put x y a && holds put x y b) (λ e. place-alone x y b h (λ z. omega arith) (ap (holds put x y) (sym q) ∙ ha e) (hb e))
-      go (no ne) (yes q) = fails (holds put x y a && holds put x y b) (λ e. place-alone x y a (omega arith) ne (ap (holds put x y) (sym q) ∙ hb e) (ha e))
-      go (no na) (no nb) =
-          ap₂ _&&_ (alike-holds put-alike a na x y) (alike-holds put-alike b nb x y)
-          ∙ apart-told W H t (standing-table W H s t (p .standing) .modulesAre) x y hx hy a b (omega (arith, alike-slots put-alike)) (omega (arith, alike-slots put-alike)) (λ z. omega arith)
-
   put-table : SoundTable W H put
   put-table =
-      let d = p .standing in
-      let n = alike-slots put-alike in
-      record {
-        wide = d .wide;
-        widest = d .widest;
-        high = d .high;
-        highest = d .highest;
-        whole = put-alike .long ∙ d .whole ∙ ap (λ k. 8 * k) (sym n);
-        some = omega (arith, n, d .some);
-        few = omega (arith, n, d .few);
-        slotsAre = told-slots W H put put-sound;
-        idsAre = told-ids put put-ids;
-        modulesAre = told-apart W H put put-apart;
-      }
+      written-sound W H t put i (standing-table W H s t (p .standing)) put-alike
+      (λ f. told-sound W H put i (record {
+        id = omega (arith, put-id, p .some);
+        place = subst (On W H) (sym put-rect) (p .place);
+        spare = and-both (eq-eqb (byte put i 6) 0 (put-byte 6 (omega arith))) (eq-eqb (byte put i 7) 0 (put-byte 7 (omega arith)));
+      }))
+      (λ j l ne. fails (sameId put i j) (λ e. let w = same-told put i j e in new-alone j l ne (w .1) (sym (w .2))))
+      (λ x y j l ne. fails (holds put x y i && holds put x y j) (λ e. place-alone x y j l ne (and-left (holds put x y i) (holds put x y j) e) (and-right (holds put x y i) (holds put x y j) e)))
 
   -- THE SURFACE STANDS WITH THE MODULE PUT IN
   pub put-stands : Standing W H (fresh W H put) put
@@ -227,63 +175,12 @@ module _ (W H : ℕ) (s : List ℤ) (t : List ℕ) (i : ℕ) (p : Taking W H s t
   pub taken-less : OneMore taken t i (rectOf t i)
   taken-less = record { slot = omega (arith, alike-slots taken-alike, p .slot); alike = alike-back taken-alike; unused = taken-free; used = p .used; rect = refl; alone = taken-alone }
 
-  left-sound : (j : ℕ) → j < slots taken → freeSlot taken j ≡ false → soundSlot W H taken j ≡ true
-  left-sound j l f = go (ℕ-discrete j i)
-    where
-      go : Dec (j ≡ i) → soundSlot W H taken j ≡ true
-      go (yes q) = not-both (freeSlot taken j) (ap (freeSlot taken) q ∙ taken-free) f
-      go (no ne) =
-          alike-sound taken-alike j ne W H
-          ∙ slots-told W H t (standing-table W H s t (p .standing) .slotsAre) j (omega (arith, alike-slots taken-alike)) (sym (alike-free taken-alike j ne) ∙ f)
-
-  left-ids : (a b : ℕ) → a < b → b < slots taken → sameId taken a b ≡ false
-  left-ids a b l h = fails (sameId taken a b) (λ q.
-      let f = and-left (usedSlot taken a && usedSlot taken b) (eqb (idOf taken a) (idOf taken b)) q in
-      let z = eqb-true (idOf taken a) (idOf taken b) (and-right (usedSlot taken a && usedSlot taken b) (eqb (idOf taken a) (idOf taken b)) q) in
-      go (and-left (usedSlot taken a) (usedSlot taken b) f) (and-right (usedSlot taken a) (usedSlot taken b) f) z (ℕ-discrete a i) (ℕ-discrete b i))
-    where
-      -- slot i is not used
-      not-it : (j : ℕ) → usedSlot taken j ≡ true → j ≡ i → ⊥
-      not-it j u q = true≢false (sym u ∙ ap not (ap (freeSlot taken) q ∙ taken-free))
-
-      go : usedSlot taken a ≡ true → usedSlot taken b ≡ true → idOf taken a ≡ idOf taken b → Dec (a ≡ i) → Dec (b ≡ i) → ⊥
-      go ua ub z (yes q) d = not-it a ua q
-      go ua ub z (no na) (yes q) = not-it b ub q
-      go ua ub z (no na) (no nb) =
-          true≢false (sym (and-both (and-both (ap not (sym (alike-free taken-alike a na)) ∙ ua) (ap not (sym (alike-free taken-alike b nb)) ∙ ub))
-          (eq-eqb (idOf t a) (idOf t b) (sym (alike-id taken-alike a na) ∙ z ∙ alike-id taken-alike b nb)))
-          ∙ ids-told t (standing-table W H s t (p .standing) .idsAre) a b (omega (arith, alike-slots taken-alike)) (omega (arith, alike-slots taken-alike)) (λ e. omega arith))
-
-  left-apart : (x y : ℕ) → x < W → y < H → (a b : ℕ) → a < b → b < slots taken → (holds taken x y a && holds taken x y b) ≡ false
-  left-apart x y hx hy a b l h = go (ℕ-discrete a i) (ℕ-discrete b i)
-    where
-      none : (c : Bool) → (c && false) ≡ false
-      none true = refl
-      none false = refl
-
-      go : Dec (a ≡ i) → Dec (b ≡ i) → (holds taken x y a && holds taken x y b) ≡ false
-      go (yes q) d = ap (λ c. c && holds taken x y b) (ap (holds taken x y) q ∙ none-there x y)
-      go (no na) (yes q) = ap (λ c. holds taken x y a && c) (ap (holds taken x y) q ∙ none-there x y) ∙ none (holds taken x y a)
-      go (no na) (no nb) =
-          ap₂ _&&_ (alike-holds taken-alike a na x y) (alike-holds taken-alike b nb x y)
-          ∙ apart-told W H t (standing-table W H s t (p .standing) .modulesAre) x y hx hy a b (omega (arith, alike-slots taken-alike)) (omega (arith, alike-slots taken-alike)) (λ z. omega arith)
-
   left-table : SoundTable W H taken
   left-table =
-      let d = p .standing in
-      let n = alike-slots taken-alike in
-      record {
-        wide = d .wide;
-        widest = d .widest;
-        high = d .high;
-        highest = d .highest;
-        whole = taken-alike .long ∙ d .whole ∙ ap (λ k. 8 * k) (sym n);
-        some = omega (arith, n, d .some);
-        few = omega (arith, n, d .few);
-        slotsAre = told-slots W H taken left-sound;
-        idsAre = told-ids taken left-ids;
-        modulesAre = told-apart W H taken left-apart;
-      }
+      written-sound W H t taken i (standing-table W H s t (p .standing)) taken-alike
+      (λ f. not-both (freeSlot taken i) taken-free f)
+      (λ j l ne. ap (λ f. not f && usedSlot taken j && eqb (idOf taken i) (idOf taken j)) taken-free)
+      (λ x y j l ne. ap (λ c. c && holds taken x y j) (none-there x y))
 
   -- THE SURFACE STANDS WITH THE MODULE TAKEN OUT
   pub take-stands : Standing W H (fresh W H taken) taken

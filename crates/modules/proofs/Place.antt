@@ -9,11 +9,11 @@ use Rattle.cells.specs.Weight.{takenZ, untaken}
 use Rattle.rules.specs.Surface.{Standing, occupied, cell}
 use Rattle.rules.specs.Empties.{cellsEmpty}
 use Rattle.rules.specs.declared.Rect.{Rect}
+use Rattle.rules.proofs.Tests.{every-same}
 use Rattle.meaning.proofs.Weights.{stands-cell}
 use Rattle.modules.specs.Column.{column, isTaken}
 use Rattle.modules.specs.Walk.{On}
 use Rattle.modules.proofs.Column.{taken-is, column-taken, column-empty, weight-column}
-use Rattle.modules.proofs.Records.{every-same}
 
 is-taken : (t : List ℕ) (c r : ℕ) → isTaken (column t c r) ≡ occupied t c r
 is-taken t c r = go (occupied t c r) refl

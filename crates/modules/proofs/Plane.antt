@@ -1,5 +1,5 @@
 -- From columns to the surface: a walk from column to column, and what it comes to where each column is that of one module more, or less. Assumes nothing.
-use mathlib.Core.Path.{_≡_, refl, sym, ap, _∙_}
+use mathlib.Core.Path.{_≡_, refl, sym, ap, _∙_, subst}
 use mathlib.Core.Bool.{true}
 use mathlib.Core.Logic.{_⊎_, inl, inr, ⊎-elim}
 use mathlib.Core.List.{List}
@@ -12,52 +12,47 @@ use Rattle.cells.specs.Weight.{countOf}
 use Rattle.rules.specs.Surface.{covers, cell}
 use Rattle.rules.specs.declared.Rect.{Rect}
 use Rattle.modules.specs.Column.{run, over, beside}
-use Rattle.modules.specs.Walk.{Holds, HoldsAll, Only, runAbove, Shallow, ColumnAdded, ColumnRemoved, Added, Removed}
+use Rattle.modules.specs.Walk.{Holds, HoldsAll, Only, runAbove, Shallow, Added, Removed}
 use Rattle.modules.proofs.Column.{lt-or-le, run-le, count-is, weight-same, within-yes, covers-in, beside-in, beside-out}
 
--- the walk from column x on has come to column c: each column d behind it that was F d f is now G d f
-pub record Walked (W H x : ℕ) (P : ℕ → (ℕ → ℕ) → Type 0) (F G : ℕ → (ℕ → ℕ) → ℕ → ℕ) (c : ℕ) (s₀ s : List ℤ) : Type 0 where
+-- the walk over the n columns from x has come to column c: each column d behind it that was F d f is now G d f
+pub record Walked (W H x n : ℕ) (P : ℕ → (ℕ → ℕ) → Type 0) (F G : ℕ → (ℕ → ℕ) → ℕ → ℕ) (c : ℕ) (s₀ s : List ℤ) : Type 0 where
+  pub from : x ≤ c
+  pub upto : c ≤ x + n
   pub long : length s ≡ length s₀
   pub done : (d : ℕ) → d < c → x ≤ d → (f : ℕ → ℕ) → P d f → Holds W H d (F d f) s₀ → Holds W H d (G d f) s
   pub rest : (d r : ℕ) → d < W → (d < x) ⊎ (c ≤ d) → cell W s d r ≡ cell W s₀ d r
 
-module _ (W H x : ℕ) (P : ℕ → (ℕ → ℕ) → Type 0) (F G : ℕ → (ℕ → ℕ) → ℕ → ℕ) where
-  pub walk-none : (s : List ℤ) → Walked W H x P F G x s s
-  walk-none s = record { long = refl; done = λ d l u. absurd (omega arith); rest = λ d r hd o. refl }
+module _ (W H x n : ℕ) (P : ℕ → (ℕ → ℕ) → Type 0) (F G : ℕ → (ℕ → ℕ) → ℕ → ℕ) where
+  pub walk-none : (s : List ℤ) → Walked W H x n P F G x s s
+  walk-none s = record { from = omega arith; upto = omega arith; long = refl; done = λ d l u. absurd (omega arith); rest = λ d r hd o. refl }
 
-  pub walk-more : (c : ℕ) (s₀ s t : List ℤ) → Walked W H x P F G c s₀ s → x ≤ c → c < W → Only W c s t → ((f : ℕ → ℕ) → P c f → Holds W H c (F c f) s → Holds W H c (G c f) t) → Walked W H x P F G (c + 1) s₀ t
-  walk-more c s₀ s t d l hc o told =
+  pub walk-more : (c : ℕ) (s₀ s t : List ℤ) → Walked W H x n P F G c s₀ s → c < x + n → x + n ≤ W → Only W c s t → ((f : ℕ → ℕ) → P c f → Holds W H c (F c f) s → Holds W H c (G c f) t) → Walked W H x n P F G (c + 1) s₀ t
+  walk-more c s₀ s t d l fits o told =
       record {
+        from = omega (arith, d .from);
+        upto = omega arith;
         long = o .long ∙ d .long;
         done = below-more (λ e. x ≤ e → (f : ℕ → ℕ) → P e f → Holds W H e (F e f) s₀ → Holds W H e (G e f) t) c
             (λ e u le f p h r lt. o .others e r (omega arith) (λ q. omega arith) ∙ d .done e u le f p h r lt)
-            (λ le f p h. told f p (λ r lt. d .rest c r hc (inr (omega arith)) ∙ h r lt));
+            (λ le f p h. told f p (λ r lt. d .rest c r (omega arith) (inr (omega arith)) ∙ h r lt));
         rest = λ e r he w.
             ⊎-elim
-            (λ (lo : e < x). o .others e r he (λ q. omega arith) ∙ d .rest e r he (inl lo))
+            (λ (lo : e < x). o .others e r he (λ q. omega (arith, d .from)) ∙ d .rest e r he (inl lo))
             (λ (hi : c + 1 ≤ e). o .others e r he (λ q. omega arith) ∙ d .rest e r he (inr (omega arith)))
             w;
       }
 
+  -- it has come to the last of them
+  pub walk-end : (c : ℕ) (s₀ s : List ℤ) → Walked W H x n P F G c s₀ s → x + n ≤ c → Walked W H x n P F G (x + n) s₀ s
+  walk-end c s₀ s d l = subst (λ k. Walked W H x n P F G k s₀ s) (omega (arith, d .upto)) d
+
 -- the columns of a module that is added, and of one that is removed
 abbrev pub Adding : ℕ → ℕ → Rect → ℕ → List ℤ → List ℤ → Type 0
-Adding W H m = Walked W H (m .x) (λ c f. Unit {0}) (λ c f. f) (λ c f. over f (m .y) (m .h) (m .x + m .w - c))
+Adding W H m = Walked W H (m .x) (m .w) (λ c f. Unit {0}) (λ c f. f) (λ c f. over f (m .y) (m .h) (m .x + m .w - c))
 
 abbrev pub Removing : ℕ → ℕ → Rect → ℕ → List ℤ → List ℤ → Type 0
-Removing W H m = Walked W H (m .x) (λ c f. (r : ℕ) → m .y ≤ r → r < m .y + m .h → f r ≡ 0) (λ c f. over f (m .y) (m .h) (m .x + m .w - c)) (λ c f. f)
-
-module _ (W H : ℕ) (m : Rect) where
-  pub add-none : (s : List ℤ) → Adding W H m (m .x) s s
-  add-none s = walk-none W H (m .x) _ _ _ s
-
-  pub add-more : (c : ℕ) (s₀ s t : List ℤ) → Adding W H m c s₀ s → m .x ≤ c → c < W → ColumnAdded W H c (m .y) (m .h) (m .x + m .w - c) s t → Adding W H m (c + 1) s₀ t
-  add-more c s₀ s t d l hc a = walk-more W H (m .x) _ _ _ c s₀ s t d l hc (a .only) (λ f p h. a .told f h)
-
-  pub remove-none : (s : List ℤ) → Removing W H m (m .x) s s
-  remove-none s = walk-none W H (m .x) _ _ _ s
-
-  pub remove-more : (c : ℕ) (s₀ s t : List ℤ) → Removing W H m c s₀ s → m .x ≤ c → c < W → ColumnRemoved W H c (m .y) (m .h) (m .x + m .w - c) s t → Removing W H m (c + 1) s₀ t
-  remove-more c s₀ s t d l hc a = walk-more W H (m .x) _ _ _ c s₀ s t d l hc (a .only) (λ f p h. a .told f p h)
+Removing W H m = Walked W H (m .x) (m .w) (λ c f. (r : ℕ) → m .y ≤ r → r < m .y + m .h → f r ≡ 0) (λ c f. over f (m .y) (m .h) (m .x + m .w - c)) (λ c f. f)
 
 -- the count above a row is at most the row's number
 pub shallow : (W H : ℕ) (f : ℕ → ℕ → ℕ) (s : List ℤ) (y : ℕ) → y ≤ H → HoldsAll W H f s → Shallow W y s
@@ -82,9 +77,12 @@ module _ (W H : ℕ) (m : Rect) (s₀ s : List ℤ) where
       (λ (lo : m .x ≤ c). ⊎-elim (λ (hi : c < m .x + m .w). inl (lo, hi)) (λ (hi : m .x + m .w ≤ c). inr (inr hi)) (lt-or-le c (m .x + m .w)))
       (lt-or-le c (m .x))
 
-  pub add-all : Adding W H m (m .x + m .w) s₀ s → Added W H m s₀ s
-  add-all d = record { long = d .long; told = told }
+  pub add-all : (k : ℕ) → Adding W H m k s₀ s → m .x + m .w ≤ k → Added W H m s₀ s
+  add-all k a l = record { long = a .long; told = told }
     where
+      d : Adding W H m (m .x + m .w) s₀ s
+      d = walk-end W H (m .x) (m .w) _ _ _ k s₀ s a l
+
       told : (f : ℕ → ℕ → ℕ) → HoldsAll W H f s₀ → HoldsAll W H (beside m f) s
       told f h c hc r hr =
           ⊎-elim
@@ -93,9 +91,12 @@ module _ (W H : ℕ) (m : Rect) (s₀ s : List ℤ) where
           (λ o. d .rest c r hc o ∙ h c hc r hr ∙ weight-same (f c) (beside m f c) r (λ q l. sym (beside-out m f c o q)))
           (which c)
 
-  pub remove-all : Removing W H m (m .x + m .w) s₀ s → Removed W H m s₀ s
-  remove-all d = record { long = d .long; told = told }
+  pub remove-all : (k : ℕ) → Removing W H m k s₀ s → m .x + m .w ≤ k → Removed W H m s₀ s
+  remove-all k a l = record { long = a .long; told = told }
     where
+      d : Removing W H m (m .x + m .w) s₀ s
+      d = walk-end W H (m .x) (m .w) _ _ _ k s₀ s a l
+
       told : (f : ℕ → ℕ → ℕ) → ((c r : ℕ) → covers m c r ≡ true → f c r ≡ 0) → HoldsAll W H (beside m f) s₀ → HoldsAll W H f s
       told f z h c hc r hr =
           ⊎-elim

@@ -1,6 +1,6 @@
 -- Slots after a record is written: the slot has the new bytes, every other slot is as before. Assumes nothing.
 use mathlib.Core.Path.{_≡_, refl, sym, ap, ap₂, _∙_}
-use mathlib.Core.Bool.{Bool, not, _&&_}
+use mathlib.Core.Bool.{not, _&&_}
 use mathlib.Core.Logic.{⊎-elim}
 use mathlib.Core.List.{List, [], _∷_}
 use Prim.Native.Nat.{ℕ, zero, suc, _+_, _*_, _/_, _≤_, _<_}
@@ -8,8 +8,8 @@ use native.Mathlib.Omega.{arith}
 use lib.Dec.{leb, eqb}
 use lib.ListN.{length, getD, set, length-set}
 use lib.Seq.{getD-set-same, getD-set-other, sets, length-sets}
-use Rattle.rules.specs.Tests.{every}
 use Rattle.rules.specs.Surface.{covers, slots, byte, idOf, rectOf, spareZero, freeSlot, withRecord, holds, soundSlot}
+use Rattle.rules.proofs.Tests.{every-same}
 use Rattle.modules.proofs.Column.{lt-or-le}
 
 -- ---- a run of stores
@@ -34,11 +34,6 @@ module _ {A : Type 0} (d : A) where
       ∙ sets-in vs (set l i a) (suc i) k (omega arith) (omega (arith, length-set l i a))
 
 -- ---- tables that differ in one slot
-
-pub every-same : (n : ℕ) (p q : ℕ → Bool) → ((k : ℕ) → k < n → p k ≡ q k) → every n p ≡ every n q
-unfolding every
-every-same zero p q h = refl
-every-same (suc n) p q h = ap₂ _&&_ (every-same n p q (λ k l. h k (omega arith))) (h n (omega arith))
 
 -- u is as long as t and has t's bytes outside slot i
 pub record Alike (t u : List ℕ) (i : ℕ) : Type 0 where

@@ -7,6 +7,7 @@ use mathlib.Core.List.{List}
 use Prim.Native.Nat.{ℕ, _+_, _≤_, _<_}
 use native.Mathlib.Nat.{eq-or-lt-of-le}
 use native.Mathlib.Omega.{arith}
+use borrow.Author.Count.{below-more}
 use borrow.Author.Tests.{lt-ltb, le-ltb, eqb-true, not-true}
 use lib.Dec.{ltb, eqb}
 use Rattle.rules.specs.Tests.{any, least}
@@ -16,19 +17,30 @@ use Rattle.rules.proofs.Tests.{least-is, any-yes, none-any, and-left, and-right
 use Rattle.modules.proofs.Column.{lt-or-le}
 
 module _ (n : ℕ) (p : ℕ → Bool) where
-  pub least-found : (i : ℕ) → i < n → p i ≡ true → ((k : ℕ) → k < i → p k ≡ false) → i ≡ least n p
-  least-found i l e none =
+  -- the walk has come to i: p holds for none before it
+  pub record Looked (i : ℕ) : Type 0 where
+    pub upto : i ≤ n
+    pub none : (k : ℕ) → k < i → p k ≡ false
+
+  pub look-none : Looked 0
+  look-none = record { upto = omega arith; none = λ k l. absurd (omega arith) }
+
+  pub look-more : (i : ℕ) {b : Bool} → Looked i → i < n → b ≡ p i → b ≡ false → Looked (i + 1)
+  look-more i w l e f = record { upto = omega arith; none = below-more _ i (w .none) (sym e ∙ f) }
+
+  pub look-found : (i : ℕ) {b : Bool} → Looked i → i < n → b ≡ p i → b ≡ true → i ≡ least n p
+  look-found i d l e f =
       let w = least-is n p in
       ⊎-elim
-      (λ (a : least n p < i). not-both (p (least n p)) (w .here (omega arith)) (none (least n p) a))
-      (λ (a : i ≤ least n p). ⊎-elim (λ (q : i ≡ least n p). q) (λ (b : i < least n p). not-both (p i) e (w .before i (omega arith) b)) (eq-or-lt-of-le a))
+      (λ (a : least n p < i). not-both (p (least n p)) (w .here (omega arith)) (d .none (least n p) a))
+      (λ (a : i ≤ least n p). ⊎-elim (λ (q : i ≡ least n p). q) (λ (b : i < least n p). not-both (p i) (sym e ∙ f) (w .before i (omega arith) b)) (eq-or-lt-of-le a))
       (lt-or-le (least n p) i)
 
-  pub least-none : ((k : ℕ) → k < n → p k ≡ false) → n ≡ least n p
-  least-none none =
+  pub look-end : (i : ℕ) → Looked i → n ≤ i → n ≡ least n p
+  look-end i d e =
       let w = least-is n p in
       ⊎-elim
-      (λ (a : least n p < n). not-both (p (least n p)) (w .here (omega arith)) (none (least n p) a))
+      (λ (a : least n p < n). not-both (p (least n p)) (w .here (omega arith)) (d .none (least n p) (omega arith)))
       (λ (a : n ≤ least n p). let u : least n p ≤ 0 + n = w .upto in omega arith)
       (lt-or-le (least n p) n)
 

@@ -91,19 +91,30 @@ module _ (t : List ℕ) where
   abbrev pub sameId : ℕ → ℕ → Bool
   sameId i j = usedSlot t i && usedSlot t j && eqb (idOf t i) (idOf t j)
 
+  pub same-told : (i j : ℕ) → sameId i j ≡ true → (usedSlot t i ≡ true) × (usedSlot t j ≡ true) × (idOf t i ≡ idOf t j)
+  same-told i j q =
+      let f = and-left (usedSlot t i && usedSlot t j) (eqb (idOf t i) (idOf t j)) q in (
+        and-left (usedSlot t i) (usedSlot t j) f,
+        and-right (usedSlot t i) (usedSlot t j) f,
+        eqb-true (idOf t i) (idOf t j) (and-right (usedSlot t i && usedSlot t j) (eqb (idOf t i) (idOf t j)) q),
+      )
+
+  -- so are j and i
+  pub same-turn : (i j : ℕ) → sameId i j ≡ true → sameId j i ≡ true
+  same-turn i j q =
+      let w = same-told i j q in
+      and-both (and-both (w .1) (w .0)) (eq-eqb (idOf t j) (idOf t i) (sym (w .2)))
+
   pub ids-told : idsDiffer t ≡ true → (i j : ℕ) → i < slots t → j < slots t → (i ≡ j → ⊥) → sameId i j ≡ false
   unfolding idsDiffer
-  ids-told e =
-      pairs-told (slots t) sameId
-      (λ i j q.
-      let f = and-left (usedSlot t i && usedSlot t j) (eqb (idOf t i) (idOf t j)) q in
-      let z = eqb-true (idOf t i) (idOf t j) (and-right (usedSlot t i && usedSlot t j) (eqb (idOf t i) (idOf t j)) q) in
-      and-both (and-both (and-right (usedSlot t i) (usedSlot t j) f) (and-left (usedSlot t i) (usedSlot t j) f)) (eq-eqb (idOf t j) (idOf t i) (sym z)))
-      e
+  ids-told e = pairs-told (slots t) sameId same-turn e
 
   pub told-ids : ((i j : ℕ) → i < j → j < slots t → sameId i j ≡ false) → idsDiffer t ≡ true
   unfolding idsDiffer
   told-ids h = told-pairs (slots t) sameId h
+
+pub and-turn : (a b : Bool) → (a && b) ≡ true → (b && a) ≡ true
+and-turn a b q = and-both (and-right a b q) (and-left a b q)
 
 module _ (W H : ℕ) (t : List ℕ) where
   pub apart-told : modulesApart W H t ≡ true → (x y : ℕ) → x < W → y < H → (i j : ℕ) → i < slots t → j < slots t → (i ≡ j → ⊥) → (holds t x y i && holds t x y j) ≡ false
@@ -111,7 +122,7 @@ module _ (W H : ℕ) (t : List ℕ) where
   apart-told e x y hx hy =
       let row = every-at H (λ y. every W (λ x. every (slots t) (λ j. every j (λ i. not (holds t x y i && holds t x y j))))) e y hy in
       pairs-told (slots t) (λ i j. holds t x y i && holds t x y j)
-      (λ i j q. and-both (and-right (holds t x y i) (holds t x y j) q) (and-left (holds t x y i) (holds t x y j) q))
+      (λ i j. and-turn (holds t x y i) (holds t x y j))
       (every-at W (λ x. every (slots t) (λ j. every j (λ i. not (holds t x y i && holds t x y j)))) row x hx)
 
   pub told-apart : ((x y : ℕ) → x < W → y < H → (i j : ℕ) → i < j → j < slots t → (holds t x y i && holds t x y j) ≡ false) → modulesApart W H t ≡ true

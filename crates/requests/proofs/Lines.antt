@@ -13,7 +13,7 @@ use Rattle.rules.specs.Requests.{isRemove, isPin, byRule, ruleOf, wide, high, b
 use Rattle.rules.proofs.Tests.{decide}
 use Rattle.requests.specs.Steps.{stray}
 
--- a line that applies gives its code; one that does not leaves it to the next; and code 0 says that none does
+-- a line that applies gives its code; one that does not leaves it to the next
 pub first-here : (c : ℕ) (b : Bool) (ls : List Line) → b ≡ true → c ≡ first (c when b ∷ ls)
 unfolding first
 first-here c b ls e = sym (ap (λ d. cond d c (first ls)) e)
@@ -25,11 +25,6 @@ first-past c b ls n e r = r ∙ sym (ap (λ d. cond d c (first ls)) e)
 pub first-end : 0 ≡ first []
 unfolding first
 first-end = refl
-
-pub first-none : (c : ℕ) (b : Bool) (ls : List Line) → first (suc c when b ∷ ls) ≡ 0 → (b ≡ false) × (first ls ≡ 0)
-unfolding first
-first-none c true ls e = absurd (omega arith)
-first-none c false ls e = (refl, e)
 
 -- ---- Bools
 

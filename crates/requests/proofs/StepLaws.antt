@@ -1,89 +1,56 @@
 -- WHAT A REQUEST COMES TO, case by case: the step that the rules define, from the tests that the code makes. Assumes nothing.
 use mathlib.Core.Path.{_≡_, refl, sym, ap, ap₂, _∙_, subst}
-use mathlib.Core.Bool.{Bool, true, false, not, cond, _&&_, _||_}
+use mathlib.Core.Bool.{Bool, true, false, not, cond, _&&_}
 use mathlib.Core.List.{List}
 use mathlib.Core.Option.{Option, none, some}
 use Prim.Native.Nat.{ℕ, _+_, _*_, _≤_, _<_}
 use native.Mathlib.Nat.{mul-le-mul-right, mul-comm}
 use native.Mathlib.Omega.{arith}
-use borrow.Author.Tests.{eqb-false, ne-eqb, ltb-true, ltb-false, lt-ltb, le-ltb, leb-true, not-false}
-use lib.Dec.{leb, ltb, eqb}
+use borrow.Author.Tests.{ltb-false, lt-ltb, le-ltb}
+use lib.Dec.{ltb, eqb}
 use lib.IntN.{ℤ}
 use lib.ListN.{length}
-use Rattle.rules.specs.Surface.{Standing, slots, rectOf, idOf, withRecord, freeRecord, occupied, fresh}
-use Rattle.rules.specs.Empties.{cellsEmpty, Empty}
+use Rattle.rules.specs.Surface.{Standing, slots, rectOf, occupied, fresh}
+use Rattle.rules.specs.Empties.{cellsEmpty}
 use Rattle.rules.specs.Judging.{first}
-use Rattle.rules.specs.Requests.{operation, ruleOf, wide, high, idAsked, isPlace, isRemove, isPin, isExchange, known, byRule, makesNew, needsOld, hasSize, pinned, idPlaced, slotOf, someFree, lowestFree, ground, position, rulePlace, anyCellTaken, orNone, soundLines, placeLines, judging, acceptedStep, stepOf}
+use Rattle.rules.specs.Requests.{operation, ruleOf, wide, high, idAsked, isPlace, isRemove, isPin, isExchange, byRule, makesNew, needsOld, hasSize, pinned, slotOf, someFree, lowestFree, ground, position, rulePlace, anyCellTaken, orNone, soundLines, placeLines, judging, acceptedStep, stepOf}
 use Rattle.rules.specs.declared.Rect.{Rect}
 use Rattle.rules.specs.declared.Step.{Step}
 use Rattle.rules.specs.declared.Step.the-variants.{Refused, Done}
-use Rattle.rules.proofs.Tests.{and-left, and-right, or-left, or-right, or-neither, fails, not-both}
+use Rattle.rules.proofs.Tests.{or-left, or-right, or-neither, fails}
 use Rattle.meaning.proofs.Lowest.{rising, first-stop, first-over}
 use Rattle.meaning.proofs.Choice.{rule-finds}
 use Rattle.modules.specs.Walk.{On}
 use Rattle.modules.specs.Change.{Taking}
-use Rattle.modules.proofs.Search.{slot-placed, slot-has, lowest-some}
+use Rattle.modules.proofs.Search.{lowest-some}
 use Rattle.modules.proofs.Stand.{standing-fresh}
+use Rattle.modules.proofs.Cases.{asking, then-false, sizes, Asked, asked, taking, step-for}
+use Rattle.modules.proofs.Cases.Asked.{place, remove, pin, exchange}
+use Rattle.modules.proofs.Cases as Cases
 use Rattle.choice.specs.Best.{choiceOf}
 use Rattle.choice.specs.declared.Choice.{Choice}
 use Rattle.choice.specs.declared.Choice.the-variants.{At, Nowhere}
-use Rattle.requests.specs.Steps.{past, ruleStep, Sound, tableLeft, weightsLeft, Judged}
-use Rattle.requests.proofs.Lines.{first-here, first-past, first-end, first-none, and-no, and-is, or-is}
+use Rattle.requests.specs.Steps.{past, ruleStep, Passes, tableLeft, weightsLeft, Judged}
+use Rattle.requests.proofs.Lines.{first-here, first-past, first-end, and-no, and-is, or-is}
 
 -- ---- what the seven tests tell
 
-pub record Told (t q : List ℕ) : Type 0 where
-  pub known-op : known q ≡ true
-  pub rule-low : (byRule q && ltb 2 (ruleOf q)) ≡ false
-  pub id-some : eqb (idAsked q) 0 ≡ false
-  pub id-new : (makesNew q && idPlaced t (idAsked q)) ≡ false
-  pub id-old : (needsOld q && not (idPlaced t (idAsked q))) ≡ false
-  pub sized : (hasSize q && (eqb (wide q) 0 || eqb (high q) 0)) ≡ false
-
-pub told : (t q : List ℕ) → Sound t q → Told t q
-unfolding soundLines
-told t q e =
-    let a = first-none 10 _ _ e in
-    let b = first-none 11 _ _ (a .1) in
-    let c = first-none 12 _ _ (b .1) in
-    let d = first-none 13 _ _ (c .1) in
-    let f = first-none 14 _ _ (d .1) in
-    let g = first-none 15 _ _ (f .1) in
-    let h = first-none 16 _ _ (g .1) in
-    record { known-op = not-false (known q) (a .0); rule-low = c .0; id-some = d .0; id-new = f .0; id-old = g .0; sized = h .0 }
-
--- the other factor fails
-pub second : (a b : Bool) → a ≡ true → (a && b) ≡ false → b ≡ false
-second true b p e = e
-second false b p e = not-both false p refl
-
-module _ (t q : List ℕ) (e : Sound t q) where
+module _ (t q : List ℕ) (e : Passes t q) where
   pub rule-le : byRule q ≡ true → ruleOf q ≤ 2
-  rule-le p = ltb-false 2 (ruleOf q) (second (byRule q) _ p (told t q e .rule-low))
+  rule-le p = ltb-false 2 (ruleOf q) (then-false (byRule q) _ p (asking t q e .rule))
 
   pub size-some : hasSize q ≡ true → (1 ≤ wide q) × (1 ≤ high q)
-  size-some p =
-      let n = or-neither (eqb (wide q) 0) (eqb (high q) 0) (second (hasSize q) _ p (told t q e .sized)) in
-      let a = eqb-false (wide q) 0 (n .0) in
-      let b = eqb-false (high q) 0 (n .1) in
-      (omega arith, omega arith)
-
-  pub id-pos : 1 ≤ idAsked q
-  id-pos = let a = eqb-false (idAsked q) 0 (told t q e .id-some) in omega arith
-
-  pub id-free : makesNew q ≡ true → idPlaced t (idAsked q) ≡ false
-  id-free p = second (makesNew q) _ p (told t q e .id-new)
-
-  pub id-there : needsOld q ≡ true → idPlaced t (idAsked q) ≡ true
-  id-there p = not-false _ (second (needsOld q) _ p (told t q e .id-old))
+  size-some = sizes t q (asking t q e)
 
   -- the fourth operation is the last
   pub last-op : (operation q ≡ 1 → ⊥) → (operation q ≡ 2 → ⊥) → (operation q ≡ 3 → ⊥) → operation q ≡ 4
-  last-op a b c =
-      let k = told t q e .known-op in
-      let l = leb-true 1 (operation q) (and-left (leb 1 (operation q)) (leb (operation q) 4) k) in
-      let m = leb-true (operation q) 4 (and-right (leb 1 (operation q)) (leb (operation q) 4) k) in
-      omega arith
+  last-op a b c = go (asked q (asking t q e .op))
+    where
+      go : Asked q → operation q ≡ 4
+      go (place p) = absurd (a p)
+      go (remove p) = absurd (b p)
+      go (pin p) = absurd (c p)
+      go (exchange p) = p
 
 -- ---- which operation is which
 
@@ -119,35 +86,27 @@ module _ (q : List ℕ) where
 -- ---- the step from the code
 
 module _ (W H : ℕ) (t q : List ℕ) where
-  step-of : (c : ℕ) → first (judging W H t q) ≡ c → stepOf W H t q ≡ cond (eqb c 0) (acceptedStep W H t q) (Refused c)
-  unfolding stepOf
-  step-of c e = ap (λ k. cond (eqb k 0) (acceptedStep W H t q) (Refused k)) e
-
   by-code : (c : ℕ) → first (judging W H t q) ≡ c → (c ≡ 0 → ⊥) → Refused c ≡ stepOf W H t q
-  by-code c e n = sym (step-of c e ∙ ap (λ b. cond b (acceptedStep W H t q) (Refused c)) (ne-eqb c 0 n))
+  by-code c e n = ap Refused (sym e) ∙ sym (Cases.step-refused W H t q (λ z. n (sym e ∙ z)))
 
   pub step-unsound : (c : ℕ) → c ≡ first (soundLines t q) → (c ≡ 0 → ⊥) → Refused c ≡ stepOf W H t q
   step-unsound c e n = by-code c (first-stop (soundLines t q) (placeLines W H t q) (λ z. n (e ∙ z)) ∙ sym e) n
 
-  over : Sound t q → first (judging W H t q) ≡ first (placeLines W H t q)
+  over : Passes t q → first (judging W H t q) ≡ first (placeLines W H t q)
   over e = first-over 10 (soundLines t q) (placeLines W H t q) (unfold soundLines rising in refl) e
 
-  step-refused : (c : ℕ) → Sound t q → c ≡ first (placeLines W H t q) → (c ≡ 0 → ⊥) → Refused c ≡ stepOf W H t q
+  step-refused : (c : ℕ) → Passes t q → c ≡ first (placeLines W H t q) → (c ≡ 0 → ⊥) → Refused c ≡ stepOf W H t q
   step-refused c s e n = by-code c (over s ∙ sym e) n
 
-  step-done : (d : Step) → Sound t q → 0 ≡ first (placeLines W H t q) → d ≡ acceptedStep W H t q → d ≡ stepOf W H t q
-  step-done d s e a = a ∙ sym (step-of 0 (over s ∙ sym e))
+  step-done : (d : Step) → Passes t q → 0 ≡ first (placeLines W H t q) → d ≡ acceptedStep W H t q → d ≡ stepOf W H t q
+  step-done d s e a = a ∙ sym (Cases.step-accepted W H t q (over s ∙ sym e))
 
   pub ground-same : isExchange q ≡ false → ground t q ≡ t
   unfolding ground
   ground-same e = rw e
 
-  pub ground-less : operation q ≡ 4 → ground t q ≡ withRecord t (slotOf t (idAsked q)) freeRecord
-  unfolding ground
-  ground-less e = rw e
-
   -- remove
-  pub remove-step : Sound t q → operation q ≡ 2 → Done (slotOf t (idAsked q)) (rectOf t (slotOf t (idAsked q))) ≡ stepOf W H t q
+  pub remove-step : Passes t q → operation q ≡ 2 → Done (slotOf t (idAsked q)) (rectOf t (slotOf t (idAsked q))) ≡ stepOf W H t q
   unfolding placeLines acceptedStep
   remove-step s e =
       step-done _ s
@@ -156,10 +115,10 @@ module _ (W H : ℕ) (t q : List ℕ) where
       (first-past 20 _ _ 0 (and-no _ _ (or-is _ _ _ (is q 2 e 1) (is q 2 e 4)))
       (first-past 21 _ _ 0 (and-no _ _ (is q 2 e 3))
       (first-past 22 _ _ 0 (and-no _ _ (or-is _ _ _ (is q 2 e 1) (is q 2 e 4))) first-end)))))
-      (rw (is q 2 e 1, is q 2 e 2))
+      (sym (step-for W H t q 2 e))
 
   -- pin
-  module _ (s : Sound t q) (e : operation q ≡ 3) where
+  module _ (s : Passes t q) (e : operation q ≡ 3) where
     pub pin-past : past W H (pinned q) ≡ true → Refused 18 ≡ stepOf W H t q
     unfolding placeLines
     pin-past p = step-refused 18 s (first-here 18 _ _ (and-is _ _ _ (is q 3 e 3) p)) (λ z. omega arith)
@@ -195,7 +154,7 @@ module _ (W H : ℕ) (t q : List ℕ) where
         (first-past 20 _ _ 0 (and-no _ _ (or-is _ _ _ (is q 3 e 1) (is q 3 e 4)))
         (first-past 21 _ _ 0 (and-is _ _ _ (is q 3 e 3) (pin-ground true g))
         (first-past 22 _ _ 0 (and-no _ _ (or-is _ _ _ (is q 3 e 1) (is q 3 e 4))) first-end)))))
-        (rw (is q 3 e 1, is q 3 e 2, is q 3 e 3))
+        (sym (step-for W H t q 3 e))
 
   -- by rule: the table on which the place is judged, and the place
   abbrev taken : ℕ → ℕ → Bool
@@ -204,7 +163,7 @@ module _ (W H : ℕ) (t q : List ℕ) where
   abbrev chosen : Option Rect
   chosen = rulePlace taken W H (ruleOf q) (wide q) (high q)
 
-  module _ (s : Sound t q) (r : byRule q ≡ true) (n : isPin q ≡ false) (i : ℕ) (f : (makesNew q && not (someFree t)) ≡ false) where
+  module _ (s : Passes t q) (r : byRule q ≡ true) (n : isPin q ≡ false) (i : ℕ) (f : (makesNew q && not (someFree t)) ≡ false) where
     size : (1 ≤ wide q) × (1 ≤ high q)
     size = size-some t q s (by-sized q r)
 
@@ -255,16 +214,8 @@ module _ (W H : ℕ) (t q : List ℕ) where
         go none e = no-place e
         go (some p) e = a-place p e a (cellsEmpty taken p) refl
 
-  pub place-accepted : operation q ≡ 1 → acceptedStep W H t q ≡ Done (lowestFree t) (orNone chosen)
-  unfolding acceptedStep
-  place-accepted e = rw (is q 1 e 1)
-
-  pub exchange-accepted : operation q ≡ 4 → acceptedStep W H t q ≡ Done (slotOf t (idAsked q)) (orNone chosen)
-  unfolding acceptedStep
-  exchange-accepted e = rw (is q 4 e 1, is q 4 e 2, is q 4 e 3, is q 4 e 4)
-
   -- place
-  pub place-full : Sound t q → operation q ≡ 1 → someFree t ≡ false → Refused 19 ≡ stepOf W H t q
+  pub place-full : Passes t q → operation q ≡ 1 → someFree t ≡ false → Refused 19 ≡ stepOf W H t q
   unfolding placeLines
   place-full s e f =
       step-refused 19 s
@@ -272,20 +223,20 @@ module _ (W H : ℕ) (t q : List ℕ) where
       (first-here 19 _ _ (and-is _ _ _ (place-new q e) (ap not f))))
       (λ z. omega arith)
 
-  pub place-rule : Sound t q → operation q ≡ 1 → someFree t ≡ true → (i : ℕ) → i ≡ lowestFree t → (d : Step) →
+  pub place-rule : Passes t q → operation q ≡ 1 → someFree t ≡ true → (i : ℕ) → i ≡ lowestFree t → (d : Step) →
       d ≡ ruleStep (occupied t) i (rulePlace (occupied t) W H (ruleOf q) (wide q) (high q)) → d ≡ stepOf W H t q
   place-rule s e f i ei d h =
       h
       ∙ ap₂ (λ u j. ruleStep (occupied u) j (rulePlace (occupied u) W H (ruleOf q) (wide q) (high q))) (sym (ground-same (is q 1 e 4))) ei
-      ∙ rule-step s (place-by q e) (is q 1 e 3) (lowestFree t) (and-is _ _ _ (place-new q e) (ap not f)) (place-accepted e)
+      ∙ rule-step s (place-by q e) (is q 1 e 3) (lowestFree t) (and-is _ _ _ (place-new q e) (ap not f)) (step-for W H t q 1 e)
 
   -- exchange: t′ is the table without the old module
-  pub exchange-rule : Sound t q → operation q ≡ 4 → (i : ℕ) → i ≡ slotOf t (idAsked q) → (t′ : List ℕ) → t′ ≡ ground t q → (d : Step) →
+  pub exchange-rule : Passes t q → operation q ≡ 4 → (i : ℕ) → i ≡ slotOf t (idAsked q) → (t′ : List ℕ) → t′ ≡ ground t q → (d : Step) →
       d ≡ ruleStep (occupied t′) i (rulePlace (occupied t′) W H (ruleOf q) (wide q) (high q)) → d ≡ stepOf W H t q
   exchange-rule s e i ei t′ et d h =
       h
       ∙ ap₂ (λ u j. ruleStep (occupied u) j (rulePlace (occupied u) W H (ruleOf q) (wide q) (high q))) et ei
-      ∙ rule-step s (exchange-by q e) (is q 4 e 3) (slotOf t (idAsked q)) (and-no _ _ (or-is _ _ _ (is q 4 e 1) (is q 4 e 3))) (exchange-accepted e)
+      ∙ rule-step s (exchange-by q e) (is q 4 e 3) (slotOf t (idAsked q)) (and-no _ _ (or-is _ _ _ (is q 4 e 1) (is q 4 e 3))) (step-for W H t q 4 e)
 
 -- ---- slots
 
@@ -296,22 +247,12 @@ module _ (t : List ℕ) (i : ℕ) (e : i ≡ lowestFree t) where
   pub one-free : i < slots t → someFree t ≡ true
   one-free h = sym (lowest-some t) ∙ lt-ltb (lowestFree t) (slots t) (omega (arith, e))
 
-module _ (W H : ℕ) (s : List ℤ) (t q : List ℕ) (d : Standing W H s t) (n : Sound t q) where
-  old-slot : needsOld q ≡ true → slotOf t (idAsked q) < slots t
-  old-slot o = ltb-true _ _ (slot-placed t (idAsked q) ∙ id-there t q n o)
-
+module _ (W H : ℕ) (s : List ℤ) (t q : List ℕ) (d : Standing W H s t) (n : Passes t q) where
   -- the slot of the old module has it
   pub old-taking : needsOld q ≡ true → (i : ℕ) → i ≡ slotOf t (idAsked q) → Taking W H s t i
-  old-taking o i e =
-      subst (Taking W H s t) (sym e) (record { standing = d; slot = old-slot o; used = slot-has t (idAsked q) (old-slot o) .0 })
-
-  pub old-id : needsOld q ≡ true → (i : ℕ) → i ≡ slotOf t (idAsked q) → idOf t i ≡ idAsked q
-  old-id o i e = ap (idOf t) e ∙ slot-has t (idAsked q) (old-slot o) .1
+  old-taking o i e = subst (Taking W H s t) (sym e) (taking W H s t q d (asking t q n) o .0)
 
 -- ---- the test of a place
-
-pub empty-on : (occ : ℕ → ℕ → Bool) (W H : ℕ) (r : Rect) → Empty occ W H r → On W H r
-empty-on occ W H r e = record { wide = e .wide; tall = e .tall; columns = e .columns; lines = e .lines }
 
 -- a place on the surface has a weight for each cell
 pub on-weights : (W H : ℕ) (s : List ℤ) (t : List ℕ) (r : Rect) → Standing W H s t → On W H r → (r .x + r .w ≤ W) × ((r .y + r .h) * W ≤ length s)

@@ -14,7 +14,7 @@ use Rattle.rules.specs.Blocks.{State, started, next, request, after}
 use Rattle.rules.specs.declared.Step.{Step}
 use Rattle.rules.specs.declared.Step.the-variants.{Refused, Done}
 use Rattle.requests.specs.Steps.{Served, bytesAt, ServedAt, Ran}
-use Rattle.requests.proofs.Accepted.{left-stands, served-stands}
+use Rattle.requests.proofs.Accepted.{served-stands}
 
 -- the first k requests are run
 pub record RanTo (W H : ℕ) (s₀ : List ℤ) (t₀ b a₀ : List ℕ) (k : ℕ) (s : List ℤ) (t a : List ℕ) (n : ℕ) : Type 0 where
@@ -50,12 +50,6 @@ module _ (W H : ℕ) (s₀ : List ℤ) (t₀ b a₀ : List ℕ) where
   unfolding after next
   answers-long zero = refl
   answers-long (suc k) = simp (length-append, answers-long k) (omega arith)
-
-  -- AFTER EACH REQUEST THE SURFACE STANDS
-  pub after-stands : Standing W H s₀ t₀ → (k : ℕ) → Standing W H (state k .weights) (state k .table)
-  unfolding after next
-  after-stands d zero = d
-  after-stands d (suc k) = left-stands W H (request b k) (state k .weights) (state k .table) (after-stands d k)
 
   -- no more are accepted than there are
   pub after-few : (k : ℕ) → state k .accepted ≤ k

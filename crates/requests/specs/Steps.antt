@@ -33,8 +33,8 @@ ruleStep occ i none = Refused 20
 ruleStep occ i (some r) = cond (cellsEmpty occ r) (Done i r) (Refused 22)
 
 -- a request that none of the codes 11 to 17 refuses
-abbrev pub Sound : List ℕ → List ℕ → Type 0
-Sound t q = first (soundLines t q) ≡ 0
+abbrev pub Passes : List ℕ → List ℕ → Type 0
+Passes t q = first (soundLines t q) ≡ 0
 
 -- judging leaves all as it was where it refuses; else the ground on which the request was judged, without the old module of an exchange
 abbrev pub tableLeft : List ℕ → Step → List ℕ → List ℕ

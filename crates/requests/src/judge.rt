@@ -5,7 +5,7 @@ ghost use lib.ListN.{length};
 ghost use Rattle.rules.specs.Surface.{Standing, occupied};
 ghost use Rattle.rules.specs.Requests.{operation, ruleOf, wide, high, rulePlace, stepOf};
 ghost use Rattle.modules.specs.Change.{Bytes};
-ghost use Rattle.requests.specs.Steps.{past, ruleStep, Sound, Judged};
+ghost use Rattle.requests.specs.Steps.{past, ruleStep, Passes, Judged};
 use super::fields::byte;
 use super::fields::id_asked;
 use super::fields::pinned;
@@ -34,7 +34,7 @@ fn by_rule(w: usize, h: usize, s: &[i16], t: &[u8], q: &[u8], i: usize) -> Step
 // Operation 1. 19: no free slot.
 fn judge_place(w: usize, h: usize, s: &[i16], t: &[u8], q: &[u8]) -> Step
     requires { ⌜ Standing w h (now s) (now t) ⌝ }
-    requires { ⌜ (length (now q) ≡ 8) × Sound (now t) (now q) × (operation (now q) ≡ 1) ⌝ }
+    requires { ⌜ (length (now q) ≡ 8) × Passes (now t) (now q) × (operation (now q) ≡ 1) ⌝ }
     ensures { λ r. ⌜ r ≡ stepOf w h (now (t .entry)) (now (q .entry)) ⌝ }
 {
     let i = modules::lowest_free(t);
@@ -47,7 +47,7 @@ fn judge_place(w: usize, h: usize, s: &[i16], t: &[u8], q: &[u8]) -> Step
 // Operation 2: nothing else can refuse it.
 fn judge_remove(w: usize, h: usize, s: &[i16], t: &[u8], q: &[u8]) -> Step
     requires { ⌜ Standing w h (now s) (now t) ⌝ }
-    requires { ⌜ (length (now q) ≡ 8) × Sound (now t) (now q) × (operation (now q) ≡ 2) ⌝ }
+    requires { ⌜ (length (now q) ≡ 8) × Passes (now t) (now q) × (operation (now q) ≡ 2) ⌝ }
     ensures { λ r. ⌜ r ≡ stepOf w h (now (t .entry)) (now (q .entry)) ⌝ }
 {
     let i = modules::slot_of(t, id_asked(q));
@@ -68,7 +68,7 @@ fn is_past(w: usize, h: usize, r: Rect) -> bool
 // Operation 3. 18: past the edge. 19: no free slot. 21: a cell of the place is occupied.
 fn judge_pin(w: usize, h: usize, s: &[i16], t: &[u8], q: &[u8]) -> Step
     requires { ⌜ Standing w h (now s) (now t) ⌝ }
-    requires { ⌜ (length (now q) ≡ 8) × Sound (now t) (now q) × (operation (now q) ≡ 3) ⌝ }
+    requires { ⌜ (length (now q) ≡ 8) × Passes (now t) (now q) × (operation (now q) ≡ 3) ⌝ }
     ensures { λ r. ⌜ r ≡ stepOf w h (now (t .entry)) (now (q .entry)) ⌝ }
 {
     let r = pinned(q);
@@ -88,7 +88,7 @@ fn judge_pin(w: usize, h: usize, s: &[i16], t: &[u8], q: &[u8]) -> Step
 // Operation 4: "judged on the surface without the old module and keeps its slot; refused, the old one stays".
 fn judge_exchange(w: usize, h: usize, s: &mut [i16], t: &mut [u8], q: &[u8]) -> Step
     requires { ⌜ Standing w h (now s) (now t) ⌝ }
-    requires { ⌜ (length (now q) ≡ 8) × Sound (now t) (now q) × (operation (now q) ≡ 4) ⌝ }
+    requires { ⌜ (length (now q) ≡ 8) × Passes (now t) (now q) × (operation (now q) ≡ 4) ⌝ }
     ensures { λ r. ⌜ Judged w h (now (q .entry)) (now (s .entry)) (now (t .entry)) (now (s .exit)) (now (t .exit)) r ⌝ }
 {
     let i = modules::slot_of(t, id_asked(q));

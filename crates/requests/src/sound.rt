@@ -6,7 +6,7 @@ ghost use lib.Dec.{ltb, eqb};
 ghost use lib.ListN.{length};
 ghost use Rattle.rules.specs.Surface.{slots};
 ghost use Rattle.rules.specs.Judging.{first};
-ghost use Rattle.rules.specs.Requests.{known, byRule, makesNew, needsOld, hasSize, ruleOf, idAsked, idPlaced, wide, high, soundLines};
+ghost use Rattle.rules.specs.Requests.{operation, known, byRule, makesNew, needsOld, hasSize, ruleOf, idAsked, idPlaced, wide, high, soundLines};
 ghost use Rattle.requests.specs.Steps.{stray as strayIn};
 use super::fields::byte;
 use super::fields::id_asked;
@@ -22,37 +22,15 @@ fn unknown(q: &[u8]) -> bool
     4 < q[0]
 }
 
-// Operations 1 and 4.
-fn by_rule(q: &[u8]) -> bool
+// The operation is one of two: 1 and 4 go by a rule, 1 and 3 make a new module, 2 and 4 need an old one.
+fn either(q: &[u8], a: u8, b: u8) -> bool
     requires { ⌜ length (now q) ≡ 8 ⌝ }
-    ensures { λ r. ⌜ r ≡ byRule (now (q .entry)) ⌝ }
+    ensures { λ r. ⌜ r ≡ (eqb (operation (now (q .entry))) a || eqb (operation (now (q .entry))) b) ⌝ }
 {
-    if q[0] == 1 {
+    if q[0] == a {
         return true;
     }
-    q[0] == 4
-}
-
-// Operations 1 and 3.
-fn makes_new(q: &[u8]) -> bool
-    requires { ⌜ length (now q) ≡ 8 ⌝ }
-    ensures { λ r. ⌜ r ≡ makesNew (now (q .entry)) ⌝ }
-{
-    if q[0] == 1 {
-        return true;
-    }
-    q[0] == 3
-}
-
-// Operations 2 and 4.
-fn needs_old(q: &[u8]) -> bool
-    requires { ⌜ length (now q) ≡ 8 ⌝ }
-    ensures { λ r. ⌜ r ≡ needsOld (now (q .entry)) ⌝ }
-{
-    if q[0] == 2 {
-        return true;
-    }
-    q[0] == 4
+    q[0] == b
 }
 
 // Operations 1, 3 and 4.
@@ -60,7 +38,7 @@ fn has_size(q: &[u8]) -> bool
     requires { ⌜ length (now q) ≡ 8 ⌝ }
     ensures { λ r. ⌜ r ≡ hasSize (now (q .entry)) ⌝ }
 {
-    if by_rule(q) {
+    if either(q, 1, 4) {
         return true;
     }
     q[0] == 3
@@ -77,7 +55,7 @@ fn stray(q: &[u8]) -> bool
     if q[0] == 3 {
         return byte(q, 1) != 0;
     }
-    if by_rule(q) {
+    if either(q, 1, 4) {
         return byte(q, 6) + byte(q, 7) != 0;
     }
     false
@@ -88,7 +66,7 @@ fn rule_over(q: &[u8]) -> bool
     requires { ⌜ length (now q) ≡ 8 ⌝ }
     ensures { λ r. ⌜ r ≡ (byRule (now (q .entry)) && ltb 2 (ruleOf (now (q .entry)))) ⌝ }
 {
-    if by_rule(q) {
+    if either(q, 1, 4) {
         return 2 < q[1];
     }
     false
@@ -115,7 +93,7 @@ fn id_taken(t: &[u8], q: &[u8]) -> bool
     requires { ⌜ (length (now t) ≡ 8 * slots (now t)) × (length (now q) ≡ 8) ⌝ }
     ensures { λ r. ⌜ r ≡ (makesNew (now (q .entry)) && idPlaced (now (t .entry)) (idAsked (now (q .entry)))) ⌝ }
 {
-    if makes_new(q) {
+    if either(q, 1, 3) {
         return placed(t, q);
     }
     false
@@ -126,7 +104,7 @@ fn id_missing(t: &[u8], q: &[u8]) -> bool
     requires { ⌜ (length (now t) ≡ 8 * slots (now t)) × (length (now q) ≡ 8) ⌝ }
     ensures { λ r. ⌜ r ≡ (needsOld (now (q .entry)) && not (idPlaced (now (t .entry)) (idAsked (now (q .entry))))) ⌝ }
 {
-    if needs_old(q) {
+    if either(q, 2, 4) {
         return !placed(t, q);
     }
     false

@@ -1,24 +1,27 @@
 -- Requests as one block of the library. Assumes nothing.
 use mathlib.Core.Path.{_≡_, refl, sym, ap, ap₂, _∙_, subst, subst⁻¹}
+use mathlib.Core.Bool.{true, false, _||_}
 use mathlib.Core.List.{List, _++_}
 use mathlib.Core.Logic.{⊎-elim}
 use Prim.Native.Nat.{ℕ, zero, suc, _+_, _-_, _*_, _≤_, _<_}
 use native.Mathlib.Nat.{add-zero, eq-or-lt-of-le}
 use native.Mathlib.Omega.{arith}
+use lib.Dec.{eqb}
 use lib.IntN.{ℤ}
 use lib.ListN.{length, take, drop, take-append-drop, getD, length-drop}
 use lib.Seq.{drop-append-add, take-all, getD-take, getD-drop}
 use Rattle.rules.specs.Surface.{Standing}
 use Rattle.rules.specs.Requests.{operation, answerOf, stepOf, weightsAfter, tableAfter}
 use Rattle.rules.specs.Blocks.{State, started, next, request, after}
+use Rattle.rules.proofs.Tests.{not-both}
 use Rattle.cells.proofs.Parts.{part-long}
+use Rattle.modules.proofs.Left.{after-stands}
 use Rattle.demands.proofs.Cuts.{request-left}
-use Rattle.demands.proofs.Stands.{after-stands}
 use Rattle.requests.specs.Steps.{Ran}
 use Rattle.stream.specs.Records.{Kept, kept, onto, answerTo, nextRecord, records, afterRecords, answersTo}
-use Rattle.stream.specs.Promise.{Ready, Holds, Served, ServedAll, Requests, Together}
+use Rattle.stream.specs.Promise.{Ready, Holds, Served, ServedAll, Requests, apart, Together}
 use Rattle.stream.proofs.Cuts.{behind, part, part-is-long}
-use Rattle.stream.proofs.Laws.{on-surface, held, front-long, at-start, fits-room}
+use Rattle.stream.proofs.Laws.{on-surface, not-apart, held, front-long, at-start, fits-room}
 
 -- what is behind the surface in the room stays
 past-start : (n : ℕ) (p s : List ℤ) → length p ≡ n → drop n (onto n p s) ≡ drop n s
@@ -100,14 +103,25 @@ one-request-more b m r n j l e =
     let le : j ≤ m = omega arith in
     ⊎-elim (λ (i : j ≡ m). n (sym (operation-at b m) ∙ ap (λ k. operation (request b k)) (sym i) ∙ e)) (λ (i : j < m). r j i e) (eq-or-lt-of-le le)
 
-pub single : (w : ℕ) (b : List ℕ) → Together w b 1
-single w b n = absurd (n refl)
+pub first-request : (w : ℕ) (b : List ℕ) → apart w b ≡ false → Requests b 1
+first-request w b e = one-request-more b 0 (λ j l o. omega arith) (not-apart w b e .1)
 
--- of the records behind, those of the part
-pub part-together : (b : List ℕ) (k m : ℕ) (fit : 8 * k + 8 * m ≤ length b) (w : ℕ) → Together w (behind b k m fit) m → Together w (part b k m fit) m
-part-together b k m fit w g n =
+pub alone-together : (w : ℕ) (b : List ℕ) → apart w b ≡ true → Together w b 1
+alone-together w b e = record { alone = λ _. refl; requests = λ f. not-both (apart w b) e f }
+
+pub requests-together : (w : ℕ) (b : List ℕ) (m : ℕ) → apart w b ≡ false → Requests b m → Together w b m
+requests-together w b m e r = record { alone = λ f. not-both (apart w b) f e; requests = λ _. r }
+
+-- of the records behind, those of the part: the first is the same
+pub part-together : (b : List ℕ) (k m : ℕ) (fit : 8 * k + 8 * m ≤ length b) (w : ℕ) → 1 ≤ m → Together w (behind b k m fit) m → Together w (part b k m fit) m
+unfolding apart
+part-together b k m fit w one g =
     let e = sym (take-append-drop (8 * m) (behind b k m fit)) in
-    (g n .0, λ j l o. g n .1 j l (ap (λ d. operation (request d j)) e ∙ ap operation (request-left (part b k m fit) (drop (8 * m) (behind b k m fit)) m (part-is-long b k m fit) j l) ∙ o))
+    let same : apart w (behind b k m fit) ≡ apart w (part b k m fit) = ap (λ o. eqb w 0 || eqb o 5) (sym (getD-take (8 * m) (behind b k m fit) 0 0 (omega arith))) in
+    record {
+      alone = λ a. g .alone (same ∙ a);
+      requests = λ a j l o. g .requests (same ∙ a) j l (ap (λ d. operation (request d j)) e ∙ ap operation (request-left (part b k m fit) (drop (8 * m) (behind b k m fit)) m (part-is-long b k m fit) j l) ∙ o);
+    }
 
 -- ---- the rest of a list from `at` on, as the code lends it
 
@@ -136,5 +150,5 @@ lent-part b a k m w one few fit fits g =
     let la = part-long (8 * k) (8 * m) a fits in
     let n : records p ≡ m = omega (arith, lp) in
     let e8 : 8 * k + 8 * m - 8 * k ≡ 8 * m = omega arith in
-    let t : Together w (part b k m fit) m = part-together b k m fit w (subst (λ d. Together w d m) (from-is b (8 * k)) g) in
+    let t : Together w (part b k m fit) m = part-together b k m fit w one (subst (λ d. Together w d m) (from-is b (8 * k)) g) in
     (omega (arith, lp), omega (arith, n, one), omega (arith, n, few), la ∙ sym lp, subst⁻¹ (λ j. Together w p j) n (subst⁻¹ (λ j. Together w (take j (drop (8 * k) b)) m) e8 t))

@@ -1,11 +1,12 @@
--- One record, on plain values: what each of its four ways comes to, and what it leaves. Assumes nothing.
-use mathlib.Core.Path.{_≡_, refl, sym, ap, _∙_, subst, subst⁻¹}
-use mathlib.Core.Bool.{Bool, true, false, not, cond}
+-- One record, on plain values: what each of its four ways comes to, and what one that is served by itself leaves. Assumes nothing.
+use mathlib.Core.Path.{_≡_, refl, sym, ap, _∙_, subst⁻¹}
+use mathlib.Core.Bool.{Bool, true, false, not, _||_, cond}
+use mathlib.Core.Logic.{⊎-elim}
 use mathlib.Core.List.{List, [], _∷_}
 use Prim.Native.Nat.{ℕ, _+_, _*_, _≤_, _<_}
 use native.Mathlib.Nat.{mul-le-mul}
 use native.Mathlib.Omega.{arith}
-use borrow.Author.Tests.{eq-eqb, ne-eqb}
+use borrow.Author.Tests.{eqb-true, eq-eqb, ne-eqb}
 use lib.Dec.{eqb}
 use lib.IntN.{ℤ}
 use lib.ListN.{length, take, drop, length-append, length-drop, length-replicate}
@@ -15,14 +16,14 @@ use Rattle.rules.specs.Surface.{Standing, rect}
 use Rattle.rules.specs.Requests.{operation, ruleOf, idLow, idHigh, wide, high, byte6, byte7, zeros, answerOf}
 use Rattle.rules.specs.Calls.{badSize, badTable, sizeLines, clearLines, clearCode, clearedWeights, clearedTable}
 use Rattle.rules.specs.declared.Step.the-variants.{Refused, Done}
+use Rattle.rules.proofs.Tests.{or-which, or-neither, not-both}
+use Rattle.surface.proofs.CallLaws.{first-none}
 use Rattle.surface.proofs.SlotLaws.{good-size}
 use Rattle.demands.proofs.Stands.{cleared-stands}
 use Rattle.requests.specs.Steps.{stray}
-use Rattle.requests.specs.Steps as Steps
-use Rattle.requests.proofs.Lines.{stray-remove, first-here, first-past, first-end, first-none}
-use Rattle.requests.proofs.Accepted.{served-stands}
-use Rattle.stream.specs.Records.{Kept, kept, onto, strayClear, clearRecordLines, clearRecordCode, requestStep, afterRequest, recordStep, nextRecord}
-use Rattle.stream.specs.Promise.{Ready, Holds, Requested, Served}
+use Rattle.requests.proofs.Lines.{stray-remove, first-here, first-past, first-end}
+use Rattle.stream.specs.Records.{Kept, kept, onto, isClear, strayClear, clearRecordLines, clearRecordCode, requestStep, afterRequest, recordStep, nextRecord}
+use Rattle.stream.specs.Promise.{Ready, Holds, Served, apart}
 
 -- ---- codes 12 and 1
 
@@ -87,6 +88,28 @@ module _ (q : List ℕ) (z : Kept) where
   unfolding nextRecord recordStep
   on-surface p n = let a = ne-eqb (operation q) 5 p in let b = ne-eqb (z .columns) 0 n in (rw (a, b), rw (a, b))
 
+-- ---- which are served by themselves
+
+pub apart-none : (w : ℕ) (q : List ℕ) → w ≡ 0 → true ≡ apart w q
+unfolding apart
+apart-none w q e = sym (ap (λ b. b || isClear q) (eq-eqb w 0 e))
+
+pub apart-clear : (w : ℕ) (q : List ℕ) → (w ≡ 0 → ⊥) → isClear q ≡ apart w q
+unfolding apart
+apart-clear w q n = sym (ap (λ b. b || isClear q) (ne-eqb w 0 n))
+
+-- one that is no clear
+pub apart-other : (w : ℕ) (q : List ℕ) → apart w q ≡ true → (operation q ≡ 5 → ⊥) → w ≡ 0
+unfolding apart
+apart-other w q e n = eqb-true w 0 (⊎-elim (λ a. a) (λ b. not-both (isClear q) b (ne-eqb (operation q) 5 n)) (or-which (eqb w 0) (isClear q) e))
+
+-- the others are requests on a surface
+pub not-apart : (w : ℕ) (q : List ℕ) → apart w q ≡ false → (w ≡ 0 → ⊥) × (operation q ≡ 5 → ⊥)
+unfolding apart
+not-apart w q e =
+    let n = or-neither (eqb w 0) (isClear q) e in
+    (λ z. not-both (eqb w 0) (eq-eqb w 0 z) (n .0), λ o. not-both (isClear q) (eq-eqb (operation q) 5 o) (n .1))
+
 -- ---- what is held
 
 pub held : (z : Kept) (w h : ℕ) (s : List ℤ) (t : List ℕ) → z ≡ kept w h s t → Holds z w h s t
@@ -111,7 +134,7 @@ at-start n p s e = take-at p (drop n s) n e
 
 pub sizes-told : (q : List ℕ) → clearRecordCode q ≡ 0 → badSize (wide q) (high q) ≡ false
 unfolding clearRecordCode clearRecordLines
-sizes-told q e = first-none 0 (badSize (wide q) (high q)) [] (first-none 11 (strayClear q) _ e .1) .0
+sizes-told q e = first-none (badSize (wide q) (high q)) 1 [] (omega arith) (first-none (strayClear q) 12 _ (omega arith) e .1) .0
 
 pub sizes-right : (q : List ℕ) → clearRecordCode q ≡ 0 → (wide q ≤ 64) × (high q ≤ 64)
 sizes-right q e = let g = good-size (wide q) (high q) (sizes-told q e) in (g .1, g .3)
@@ -157,35 +180,10 @@ pub refused-served : (q : List ℕ) (w h : ℕ) (s : List ℤ) (t a : List ℕ) 
     a ≡ answerOf q (Refused c) → Served q z w h s t a
 refused-served q w h s t a c e f r ea = record { holds = held (nextRecord q (kept w h s t)) w h s t e; answer = ea ∙ sym (ap (answerOf q) f); ready = r }
 
--- ---- a request of the library
+-- ---- requests of the library
 
 pub fits-room : (w h : ℕ) (s : List ℤ) (t : List ℕ) → Ready w h s t → (w ≡ 0 → ⊥) → (w * h ≤ 4096) × (w * h ≤ length s) × (w * h ≡ length (take (w * h) s))
 fits-room w h s t r n =
     let d = r .stands n in
     let m = cells-most w h (d .widest) (d .highest) in
     let l : w * h ≤ length s = omega (arith, r .long) in (m, l, sym (length-take-le (w * h) s l))
-
-pub request-served : (q : List ℕ) (w h : ℕ) (s : List ℤ) (t : List ℕ) (p : List ℤ) (t′ a : List ℕ) (n : ℕ) → Ready w h s t → (w ≡ 0 → ⊥) →
-    Steps.Served w h q (take (w * h) s) t p t′ a n → length t′ ≡ length t → Requested q (kept w h s t) (onto (w * h) p s) t′ a
-request-served q w h s t p t′ a n r nz v lt =
-    let d = served-stands w h q (take (w * h) s) t p t′ a n (r .stands nz) v in
-    record {
-      holds = record { columns = refl; rows = refl; room = ap (λ x. onto (w * h) x s) (v .weights); table = v .table };
-      answer = v .answer;
-      ready = record {
-        long = front-long (w * h) p s (d .long) (fits-room w h s t r nz .0) (r .long);
-        slots = lt ∙ r .slots;
-        stands = λ _. subst⁻¹ (λ x. Standing w h x t′) (at-start (w * h) p s (d .long)) d;
-      };
-    }
-
-pub requested-served : (q : List ℕ) (w h : ℕ) (s : List ℤ) (t : List ℕ) (s′ : List ℤ) (t′ a : List ℕ) → (operation q ≡ 5 → ⊥) → (w ≡ 0 → ⊥) →
-    Requested q (kept w h s t) s′ t′ a → Served q (kept w h s t) w h s′ t′ a
-requested-served q w h s t s′ t′ a p n r =
-    let z = kept w h s t in
-    let o = on-surface q z p n in
-    record {
-      holds = subst⁻¹ (λ k. Holds k w h s′ t′) (o .0) (r .holds);
-      answer = r .answer ∙ sym (ap (answerOf q) (o .1));
-      ready = r .ready;
-    }

@@ -1,13 +1,15 @@
 -- WHAT THE FUNCTIONS PROMISE of sizes and slices, in the words of `Records`. z is what was kept before.
 use mathlib.Core.Path.{_≡_}
+use mathlib.Core.Bool.{Bool, true, false, _||_}
 use mathlib.Core.List.{List}
 use Prim.Native.Nat.{ℕ, _*_, _≤_, _<_}
+use lib.Dec.{eqb}
 use lib.IntN.{ℤ}
 use lib.ListN.{length, take}
 use Rattle.rules.specs.Surface.{Standing}
-use Rattle.rules.specs.Requests.{operation, answerOf}
+use Rattle.rules.specs.Requests.{operation}
 use Rattle.rules.specs.Blocks.{request}
-use Rattle.stream.specs.Records.{Kept, clearRecordCode, requestStep, afterRequest, answerTo, nextRecord, records, afterRecords, answersTo, entriesKept, cornersKept, listRoom}
+use Rattle.stream.specs.Records.{Kept, isClear, clearRecordCode, answerTo, nextRecord, records, afterRecords, answersTo, entriesKept, cornersKept, listRoom}
 
 -- sizes and slices are as long as the program's, and the surface stands where there is one
 pub record Ready (w h : ℕ) (s : List ℤ) (t : List ℕ) : Type 0 where
@@ -21,12 +23,6 @@ pub record Holds (z : Kept) (w h : ℕ) (s : List ℤ) (t : List ℕ) : Type 0 w
   pub rows : h ≡ z .rows
   pub room : s ≡ z .room
   pub table : t ≡ z .table
-
--- a request q of the library is served
-pub record Requested (q : List ℕ) (z : Kept) (s : List ℤ) (t a : List ℕ) : Type 0 where
-  pub holds : Holds (afterRequest q (requestStep q z) z) (z .columns) (z .rows) s t
-  pub answer : a ≡ answerOf q (requestStep q z)
-  pub ready : Ready (z .columns) (z .rows) s t
 
 -- a record q is served
 pub record Served (q : List ℕ) (z : Kept) (w h : ℕ) (s : List ℤ) (t a : List ℕ) : Type 0 where
@@ -48,9 +44,14 @@ AcceptedClear q = (operation q ≡ 5) × (clearRecordCode q ≡ 0)
 abbrev pub Requests : List ℕ → ℕ → Type 0
 Requests b n = (j : ℕ) → j < n → operation (request b j) ≡ 5 → ⊥
 
--- the first m records of b are served together: one record; or more, which are requests on the surface that there is
-abbrev pub Together : ℕ → List ℕ → ℕ → Type 0
-Together w b m = (m ≡ 1 → ⊥) → (w ≡ 0 → ⊥) × Requests b m
+-- q is served by itself: a clear, and any record before there is a surface
+unfoldable pub apart : ℕ → List ℕ → Bool
+apart w q = eqb w 0 || isClear q
+
+-- the first m records of b are served together: one by itself, or requests on the surface that there is
+pub record Together (w : ℕ) (b : List ℕ) (m : ℕ) : Type 0 where
+  pub alone : apart w b ≡ true → m ≡ 1
+  pub requests : apart w b ≡ false → Requests b m
 
 -- the list is written, and counted; there is room for it
 pub record ListedBy (z : Kept) (room : List ℕ) (n c : ℕ) (room′ : List ℕ) : Type 0 where

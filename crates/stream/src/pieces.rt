@@ -5,28 +5,25 @@ ghost use lib.ListN.{length};
 ghost use Rattle.stream.specs.Records.{kept, records, carried};
 ghost use Rattle.stream.specs.Promise.{Ready, ServedAll, Requests, Together};
 use super::records::Size;
-use super::records::serve_record;
+use super::records::apart;
+use super::records::serve_apart;
 use requests::run::run_on;
 
-// How many records, from the first on, are served together: the requests up to the next clear. A clear, and a record before there is a surface, is
-// served by itself.
+// How many records, from the first on, are served together: one by itself, or the requests up to the next clear.
 fn together(w: usize, b: &[u8]) -> usize
     requires { ⌜ (length (now b) ≡ 8 * records (now b)) × (1 ≤ records (now b)) × (records (now b) ≤ 512) ⌝ }
     ensures { λ m. ⌜ (1 ≤ m) × (m ≤ records (now (b .entry))) × Together w (now (b .entry)) m ⌝ }
 {
-    if w == 0 {
+    if apart(w, b) {
         return 1;
     }
     let n = b.len() / 8;
-    let mut m = 0;
+    let mut m = 1;
     while m < n {
         if b[8 * m] == 5 {
             break;
         }
         m += 1;
-    }
-    if m == 0 {
-        return 1;
     }
     m
 }
@@ -47,8 +44,8 @@ fn serve_together(w: usize, h: usize, s: &mut [i16], t: &mut [u8], b: &[u8], a: 
     requires { ⌜ (length (now b) ≡ 8 * records (now b)) × (1 ≤ records (now b)) × (records (now b) ≤ 512) × (length (now a) ≡ length (now b)) × Together w (now b) (records (now b)) ⌝ }
     ensures { λ r. ⌜ ServedAll (now (b .entry)) (kept w h (now (s .entry)) (now (t .entry))) (r .columns) (r .rows) (now (s .exit)) (now (t .exit)) (now (a .exit)) ⌝ }
 {
-    if b.len() == 8 {
-        return serve_record(w, h, s, t, b, a);
+    if apart(w, b) {
+        return serve_apart(w, h, s, t, b, a);
     }
     serve_block(w, h, s, t, b, a);
     Size {

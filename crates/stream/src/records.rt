@@ -1,14 +1,14 @@
-// One record: a clear, a record before there is a surface, or a request of the library.
+// A record that is served by itself: a clear, or any before there is a surface.
 ghost use mathlib.Core.Path.{_≡_};
+ghost use mathlib.Core.Bool.{true};
 ghost use mathlib.Core.List.{[], _∷_};
 ghost use Prim.Native.Nat.{ℕ, _+_, _*_, _≤_, _<_};
 ghost use lib.ListN.{length};
 ghost use Rattle.rules.specs.Requests.{operation, idLow, idHigh};
 ghost use Rattle.rules.specs.Calls.{badSize, clearedWeights, clearedTable};
 ghost use Rattle.stream.specs.Records.{kept, onto, strayClear, clearRecordCode};
-ghost use Rattle.stream.specs.Promise.{Ready, Requested, Served};
+ghost use Rattle.stream.specs.Promise.{Ready, Served, apart};
 use requests::fields::byte;
-use requests::serve::serve;
 use surface::calls::clear_weights;
 use surface::calls::free_slots;
 use surface::sizes::size_code;
@@ -98,35 +98,29 @@ fn serve_clear(w: usize, h: usize, s: &mut [i16], t: &mut [u8], q: &[u8], a: &mu
     }
 }
 
-// A request of the library, on the surface that there is.
-fn serve_request(w: usize, h: usize, s: &mut [i16], t: &mut [u8], q: &[u8], a: &mut [u8])
-    requires { ⌜ Ready w h (now s) (now t) ⌝ }
-    requires { ⌜ (length (now q) ≡ 8) × (length (now a) ≡ 8) × (w ≡ 0 → ⊥) ⌝ }
-    ensures { λ _. ⌜ Requested (now (q .entry)) (kept w h (now (s .entry)) (now (t .entry))) (now (s .exit)) (now (t .exit)) (now (a .exit)) ⌝ }
+// A clear is served by itself, and so is any record before there is a surface.
+pub fn apart(w: usize, q: &[u8]) -> bool
+    requires { ⌜ 1 ≤ length (now q) ⌝ }
+    ensures { λ r. ⌜ r ≡ apart w (now (q .entry)) ⌝ }
 {
-    let n = w * h;
-    serve(w, h, &mut s[..n], t, q, a);
+    if w == 0 {
+        return true;
+    }
+    q[0] == 5
 }
 
-// One record, answered in the eight bytes lent for it. The result is the size of the surface that is kept then.
-pub fn serve_record(w: usize, h: usize, s: &mut [i16], t: &mut [u8], q: &[u8], a: &mut [u8]) -> Size
+// Such a record, answered in the eight bytes lent for it. The result is the size of the surface that is kept then.
+pub fn serve_apart(w: usize, h: usize, s: &mut [i16], t: &mut [u8], q: &[u8], a: &mut [u8]) -> Size
     requires { ⌜ Ready w h (now s) (now t) ⌝ }
-    requires { ⌜ (length (now q) ≡ 8) × (length (now a) ≡ 8) ⌝ }
+    requires { ⌜ (length (now q) ≡ 8) × (length (now a) ≡ 8) × (apart w (now q) ≡ true) ⌝ }
     ensures { λ r. ⌜ Served (now (q .entry)) (kept w h (now (s .entry)) (now (t .entry))) (r .columns) (r .rows) (now (s .exit)) (now (t .exit)) (now (a .exit)) ⌝ }
 {
-    if q[0] == 5 {
-        return serve_clear(w, h, s, t, q, a);
-    }
-    if w == 0 {
+    if q[0] != 5 {
         answer(q, a, 8, 0, 0);
         return Size {
             columns: w,
             rows: h,
         };
     }
-    serve_request(w, h, s, t, q, a);
-    Size {
-        columns: w,
-        rows: h,
-    }
+    serve_clear(w, h, s, t, q, a)
 }

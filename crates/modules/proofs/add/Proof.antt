@@ -1,15 +1,15 @@
 -- `modules::add` meets its contract. The invariant says which columns are done, by the law `add-all` at the end all of the module. Assumes nothing.
-use mathlib.Core.Path.{_≡_, subst}
-use Prim.Native.Nat.{_+_, _≤_, _-_}
+use mathlib.Core.Path.{_≡_}
+use Prim.Native.Nat.{_+_, _-_}
 use native.Mathlib.Omega.{arith}
 use borrow.Author.Needs.{needs}
 use Rattle.rules.specs.Surface.{rect}
-use Rattle.modules.proofs.Plane.{Adding, add-none, add-more, add-all}
+use Rattle.modules.proofs.Plane.{Adding, walk-none, walk-more, add-all}
 use Rattle.modules.proofs.add.Statement.{statement}
 use Rattle.modules.proofs.add.Tie as tie
 
 abbrev Inv-loop : tie.InvT-loop
-Inv-loop w h s₀ x y mw mh end c₀ s c = (x ≤ c) × (c ≤ end) × (end ≡ x + mw) × Adding w h (rect x y mw mh) c s₀ s
+Inv-loop w h s₀ x y mw mh end c₀ s c = (end ≡ x + mw) × Adding w h (rect x y mw mh) c s₀ s
 
 abbrev μ-loop : tie.MeasureT-loop
 μ-loop w h s₀ x y mw mh end c₀ s c = end - c
@@ -18,7 +18,7 @@ add-end : tie.Need-add-end Inv-loop μ-loop
 add-end c = omega arith
 
 loop-holds : tie.Need-loop-holds Inv-loop μ-loop
-loop-holds c = (omega arith, omega arith, omega arith, add-none _ _ _ _)
+loop-holds c = (omega arith, walk-none _ _ _ _ _ _ _ _)
 
 sub-add-column : tie.Need-sub-add-column Inv-loop μ-loop
 sub-add-column c = omega arith
@@ -33,20 +33,15 @@ loop-less : tie.Need-loop-less Inv-loop μ-loop
 loop-less c = omega arith
 
 loop-again : tie.Need-loop-again Inv-loop μ-loop
-loop-again c = let a = c .before .before .before .before .before .args in let l = c .before .before .before .before .loop in (
-  omega arith,
-  omega arith,
-  omega arith,
-  add-more (a .w) (a .h) (rect (a .x) (a .y) (a .mw) (a .mh)) (l .c) (a .s .now) (l .s) (c .before .add-column .last .1 .1 .0) (l .inv .3) (l .inv .0) (omega arith) (c .before .add-column .ensures),
-)
+loop-again c = let a = c .before .before .before .before .before .args in let l = c .before .before .before .before .loop in
+    (omega arith, walk-more _ _ _ _ _ _ _ (l .c) (a .s .now) (l .s) (c .before .add-column .last .1 .1 .0) (l .inv .1) (omega arith) (omega arith) (c .before .add-column .ensures .only) (λ f p h. c .before .add-column .ensures .told f h))
 
 same-length : tie.Need-same-length Inv-loop μ-loop
-same-length c = c .before .loop .inv .3 .long
+same-length c = c .before .loop .inv .1 .long
 
 returns : tie.Need-returns Inv-loop μ-loop
-returns c = let p = c .before .before in let a = p .args in let l = c .before .loop in
-    let m = rect (a .x) (a .y) (a .mw) (a .mh) in
-    add-all (a .w) (a .h) m (a .s .now) (l .s) (subst (λ k. Adding (a .w) (a .h) m k (a .s .now) (l .s)) (omega arith) (l .inv .3))
+returns c = let a = c .before .before .args in let l = c .before .loop in
+    add-all (a .w) (a .h) (rect (a .x) (a .y) (a .mw) (a .mh)) (a .s .now) (l .s) (l .c) (l .inv .1) (omega arith)
 
 pub add-spec : {M : Type 1} → statement M
 add-spec =

@@ -1,31 +1,28 @@
 -- `modules::lowest_free` meets its contract: no slot before the one that the walk has come to is wanted. Assumes nothing.
-use mathlib.Core.Path.{_≡_, sym, _∙_}
-use mathlib.Core.Bool.{false}
-use Prim.Native.Nat.{ℕ, _≤_, _<_, _-_}
+use mathlib.Core.Path.{_≡_, _∙_}
+use Prim.Native.Nat.{_-_}
 use native.Mathlib.Omega.{arith}
-use borrow.Author.Count.{below-more}
 use Rattle.rules.specs.Surface.{slots, freeSlot}
 use Rattle.rules.specs.Requests.{lowestFree}
-use Rattle.modules.proofs.Search.{least-found, least-none}
+use Rattle.modules.proofs.Search.{Looked, look-none, look-more, look-found, look-end}
 use Rattle.modules.proofs.lowest_free.Statement.{statement}
 use Rattle.modules.proofs.lowest_free.Tie as tie
 
 abbrev Inv-loop : tie.InvT-loop
-Inv-loop t n i₀ i = (i ≤ n) × ((k : ℕ) → k < i → freeSlot t k ≡ false)
+Inv-loop t n i₀ i = (n ≡ slots t) × Looked (slots t) (freeSlot t) i
 
 abbrev μ-loop : tie.MeasureT-loop
 μ-loop t n i₀ i = n - i
 
 loop-holds : tie.Need-loop-holds Inv-loop μ-loop
-loop-holds c = (omega arith, λ k l. absurd (omega arith))
+loop-holds c = (omega arith, look-none _ _)
 
 slot-free-requires : tie.Need-slot-free-requires Inv-loop μ-loop
 slot-free-requires c κs = omega arith
 
 returns : tie.Need-returns Inv-loop μ-loop
 unfolding lowestFree
-returns c = let a = c .before .before .before .before .before .args in let l = c .before .before .before .loop in
-    least-found (slots (a .t .now)) (freeSlot (a .t .now)) (l .i) (omega arith) (sym (c .before .slot-free .ensures) ∙ c .if1 .taken) (l .inv .1)
+returns c = let l = c .before .before .before .loop in look-found _ _ (l .i) (l .inv .1) (omega arith) (c .before .slot-free .ensures) (c .if1 .taken)
 
 add-i : tie.Need-add-i Inv-loop μ-loop
 add-i c = omega arith
@@ -34,13 +31,11 @@ loop-less : tie.Need-loop-less Inv-loop μ-loop
 loop-less c = omega arith
 
 loop-again : tie.Need-loop-again Inv-loop μ-loop
-loop-again c = let l = c .before .before .before .loop in
-    (omega arith, below-more _ (l .i) (l .inv .1) (sym (c .before .slot-free .ensures) ∙ c .if1 .left))
+loop-again c = let l = c .before .before .before .loop in (omega arith, look-more _ _ (l .i) (l .inv .1) (omega arith) (c .before .slot-free .ensures) (c .if1 .left))
 
 returns-2 : tie.Need-returns-2 Inv-loop μ-loop
 unfolding lowestFree
-returns-2 c = let a = c .before .before .before .args in let l = c .before .loop in
-    least-none (slots (a .t .now)) (freeSlot (a .t .now)) (λ k u. l .inv .1 k (omega arith))
+returns-2 c = let l = c .before .loop in l .inv .0 ∙ look-end _ _ (l .i) (l .inv .1) (omega arith)
 
 pub lowest-free-spec : {M : Type 1} → statement M
 lowest-free-spec =

@@ -1,16 +1,16 @@
 -- `modules::remove` meets its contract. A column that is still to come has its count above the module still. Assumes nothing.
-use mathlib.Core.Path.{_≡_, subst}
+use mathlib.Core.Path.{_≡_}
 use mathlib.Core.Logic.{inr}
-use Prim.Native.Nat.{_+_, _≤_, _-_}
+use Prim.Native.Nat.{_+_, _-_}
 use native.Mathlib.Omega.{arith}
 use borrow.Author.Needs.{needs}
 use Rattle.rules.specs.Surface.{rect}
-use Rattle.modules.proofs.Plane.{Removing, remove-none, remove-more, remove-all, above-same}
+use Rattle.modules.proofs.Plane.{Removing, walk-none, walk-more, remove-all, above-same}
 use Rattle.modules.proofs.remove.Statement.{statement}
 use Rattle.modules.proofs.remove.Tie as tie
 
 abbrev Inv-loop : tie.InvT-loop
-Inv-loop w h s₀ x y mw mh end c₀ s c = (x ≤ c) × (c ≤ end) × (end ≡ x + mw) × Removing w h (rect x y mw mh) c s₀ s
+Inv-loop w h s₀ x y mw mh end c₀ s c = (end ≡ x + mw) × Removing w h (rect x y mw mh) c s₀ s
 
 abbrev μ-loop : tie.MeasureT-loop
 μ-loop w h s₀ x y mw mh end c₀ s c = end - c
@@ -19,7 +19,7 @@ add-end : tie.Need-add-end Inv-loop μ-loop
 add-end c = omega arith
 
 loop-holds : tie.Need-loop-holds Inv-loop μ-loop
-loop-holds c = (omega arith, omega arith, omega arith, remove-none _ _ _ _)
+loop-holds c = (omega arith, walk-none _ _ _ _ _ _ _ _)
 
 remove-column-requires : tie.Need-remove-column-requires Inv-loop μ-loop
 remove-column-requires c κs = let p = c .before .before .before in let a = p .args in let l = c .before .before .loop in (
@@ -27,7 +27,7 @@ remove-column-requires c κs = let p = c .before .before .before in let a = p .a
   (
     omega arith,
     omega arith,
-    above-same (a .w) (a .s .now) (l .s) (l .c) (a .y) (λ r. l .inv .3 .rest (l .c) r (omega arith) (inr (omega arith))) (p .pre .1 .0 (l .c) (omega arith)),
+    above-same (a .w) (a .s .now) (l .s) (l .c) (a .y) (λ r. l .inv .1 .rest (l .c) r (omega arith) (inr (omega arith))) (p .pre .1 .0 (l .c) (omega arith)),
   ),
 )
 
@@ -38,20 +38,15 @@ loop-less : tie.Need-loop-less Inv-loop μ-loop
 loop-less c = omega arith
 
 loop-again : tie.Need-loop-again Inv-loop μ-loop
-loop-again c = let a = c .before .before .before .before .before .args in let l = c .before .before .before .before .loop in (
-  omega arith,
-  omega arith,
-  omega arith,
-  remove-more (a .w) (a .h) (rect (a .x) (a .y) (a .mw) (a .mh)) (l .c) (a .s .now) (l .s) (c .before .remove-column .last .1 .1 .0) (l .inv .3) (l .inv .0) (omega arith) (c .before .remove-column .ensures (a .x + a .mw - l .c)),
-)
+loop-again c = let a = c .before .before .before .before .before .args in let l = c .before .before .before .before .loop in
+    (omega arith, walk-more _ _ _ _ _ _ _ (l .c) (a .s .now) (l .s) (c .before .remove-column .last .1 .1 .0) (l .inv .1) (omega arith) (omega arith) (c .before .remove-column .ensures (a .x + a .mw - l .c) .only) ((c .before .remove-column .ensures (a .x + a .mw - l .c)) .told))
 
 same-length : tie.Need-same-length Inv-loop μ-loop
-same-length c = c .before .loop .inv .3 .long
+same-length c = c .before .loop .inv .1 .long
 
 returns : tie.Need-returns Inv-loop μ-loop
-returns c = let p = c .before .before in let a = p .args in let l = c .before .loop in
-    let m = rect (a .x) (a .y) (a .mw) (a .mh) in
-    remove-all (a .w) (a .h) m (a .s .now) (l .s) (subst (λ k. Removing (a .w) (a .h) m k (a .s .now) (l .s)) (omega arith) (l .inv .3))
+returns c = let a = c .before .before .args in let l = c .before .loop in
+    remove-all (a .w) (a .h) (rect (a .x) (a .y) (a .mw) (a .mh)) (a .s .now) (l .s) (l .c) (l .inv .1) (omega arith)
 
 pub remove-spec : {M : Type 1} → statement M
 remove-spec =

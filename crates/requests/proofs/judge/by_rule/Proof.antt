@@ -8,8 +8,9 @@ use Rattle.rules.specs.declared.Rect.{Rect}
 use Rattle.meaning.proofs.Choice.{rulePlace-empty}
 use Rattle.modules.specs.Walk.{On}
 use Rattle.modules.proofs.Place.{untaken-empty}
+use Rattle.modules.proofs.Cases.{empty-parts}
 use Rattle.choice.specs.Best.{choiceOf}
-use Rattle.requests.proofs.StepLaws.{chose-same, chose-none, chose-some, rule-none, rule-some, empty-on, on-weights}
+use Rattle.requests.proofs.StepLaws.{chose-same, chose-none, chose-some, rule-none, rule-some, on-weights}
 use borrow.Author.Needs.{needs}
 use Rattle.requests.proofs.judge.by_rule.Statement.{statement}
 use Rattle.requests.proofs.judge.by_rule.Tie as tie
@@ -34,7 +35,7 @@ found c = chose-some _ _ (chose (called c)) _ (c .before .c .given .1)
 on : (c : tie.After-known-told) → On (start (called c) .args .w) (start (called c) .args .h) (c .before .c .given .0 .0)
 on c =
     let p = start (called c) .pre in
-    empty-on _ _ _ _ (rulePlace-empty _ _ _ _ _ _ (p .1 .2) (p .1 .3) _ (found c))
+    empty-parts _ _ _ _ (rulePlace-empty _ _ _ _ _ _ (p .1 .2) (p .1 .3) _ (found c)) .0
 
 -- and the test of its cells tells whether they are empty
 tested : (c : tie.After-none-taken) → cellsEmpty (occupied (start (called (c .before)) .args .t .now)) (c .before .before .c .given .0 .0) ≡ c .none-taken .result

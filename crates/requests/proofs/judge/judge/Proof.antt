@@ -1,7 +1,7 @@
 -- `requests::judge::judge` meets its contract. Assumes nothing.
 use mathlib.Core.Path.{refl, sym, ap, _∙_}
 use lib.Dec.{eqb}
-use Rattle.requests.specs.Steps.{Sound}
+use Rattle.requests.specs.Steps.{Passes}
 use Rattle.requests.proofs.StepLaws.{step-unsound, last-op, judged-refused, judged-same}
 use borrow.Author.Needs.{needs}
 use Rattle.requests.proofs.judge.judge.Statement.{statement}
@@ -10,7 +10,7 @@ use Rattle.requests.proofs.judge.judge.Tie as tie
 abbrev start : tie.After-sound-code → tie.Start
 start c = c .before .before .before .before
 
-sound : (c : tie.Else1) → Sound (start (c .before) .args .t .now) (start (c .before) .args .q .now)
+sound : (c : tie.Else1) → Passes (start (c .before) .args .t .now) (start (c .before) .args .q .now)
 sound c = sym (c .before .sound-code .ensures) ∙ c .if1 .left
 
 sound-code-requires : tie.Need-sound-code-requires

@@ -8,7 +8,8 @@ use Rattle.rules.specs.Requests.{slotOf, idAsked, ground, stepOf}
 use Rattle.modules.specs.Change.{Taking}
 use Rattle.modules.proofs.Changes.{slot-fits, take-left}
 use Rattle.modules.proofs.Exchange.{back-placing, back-left}
-use Rattle.requests.proofs.StepLaws.{rule-le, size-some, exchange-by, exchange-old, by-sized, old-taking, ground-less, exchange-rule, judged-refused, judged-done}
+use Rattle.modules.proofs.Cases.{ground-for}
+use Rattle.requests.proofs.StepLaws.{rule-le, size-some, exchange-by, exchange-old, by-sized, old-taking, exchange-rule, judged-refused, judged-done}
 use borrow.Author.Needs.{needs}
 use Rattle.requests.proofs.judge.judge_exchange.Statement.{statement}
 use Rattle.requests.proofs.judge.judge_exchange.Tie as tie
@@ -45,7 +46,7 @@ ground-is : (c : tie.After-take-out) → let a = start (found c) .args in c .tak
 ground-is c = let p = start (found c) in
     c .take-out .ensures .0
     ∙ ap (λ i. withRecord (p .args .t .now) i freeRecord) (slot (found c))
-    ∙ sym (ground-less (p .args .w) (p .args .h) (p .args .t .now) (p .args .q .now) (p .pre .1 .2))
+    ∙ sym (ground-for (p .args .t .now) (p .args .q .now) 4 (p .pre .1 .2))
 
 step : (c : tie.After-by-rule) → let a = start (found (gone c)) .args in c .by-rule .result ≡ stepOf (a .w) (a .h) (a .t .now) (a .q .now)
 step c =

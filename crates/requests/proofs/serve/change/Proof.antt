@@ -1,7 +1,8 @@
 -- `requests::serve::change` meets its contract. Assumes nothing.
-use mathlib.Core.Path.{ap, _∙_}
+use mathlib.Core.Path.{sym, ap, _∙_}
 use Rattle.rules.specs.Surface.{withRecord}
-use Rattle.requests.proofs.Accepted.{record-free, record-new}
+use Rattle.modules.proofs.Left.{record-free}
+use Rattle.requests.proofs.Accepted.{record-new}
 use borrow.Author.Needs.{needs}
 use Rattle.requests.proofs.serve.change.Statement.{statement}
 use Rattle.requests.proofs.serve.change.Tie as tie
@@ -21,7 +22,7 @@ same-length-2 c = search needs
 returns : tie.Need-returns
 returns c = let k = c .before .before .before in
     let a = c .before .before .before .before .before .before .before .before .before .before .args in
-    (k .take-out .ensures .0 ∙ ap (withRecord (a .t .now) (a .i)) (record-free (a .q .now) (a .r) (k .before .before .before .if1 .taken)), k .take-out .ensures .1)
+    (k .take-out .ensures .0 ∙ ap (withRecord (a .t .now) (a .i)) (sym (record-free (a .q .now) (a .r) (k .before .before .before .if1 .taken))), k .take-out .ensures .1)
 
 shared-slice-read-put-in : tie.Need-shared-slice-read-put-in
 shared-slice-read-put-in c = search needs

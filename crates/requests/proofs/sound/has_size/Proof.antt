@@ -4,17 +4,17 @@ use borrow.Author.Needs.{needs}
 use Rattle.requests.proofs.sound.has_size.Statement.{statement}
 use Rattle.requests.proofs.sound.has_size.Tie as tie
 
-by-rule-requires : tie.Need-by-rule-requires
-by-rule-requires c κs = search needs
+either-requires : tie.Need-either-requires
+either-requires c κs = search needs
 
 returns : tie.Need-returns
-returns c = simp (sym (c .before .by-rule .ensures) ∙ c .if1 .taken)
+returns c = simp (sym (c .before .either .ensures) ∙ c .if1 .taken)
 
 shared-slice-read-result : tie.Need-shared-slice-read-result
 shared-slice-read-result c = search needs
 
 returns-2 : tie.Need-returns-2
-returns-2 c = simp (sym (c .before .before .by-rule .ensures) ∙ c .before .if1 .left)
+returns-2 c = simp (sym (c .before .before .either .ensures) ∙ c .before .if1 .left)
 
 pub has-size-spec : {M : Type 1} → statement M
-has-size-spec = tie.close (tie.spec by-rule-requires returns shared-slice-read-result returns-2)
+has-size-spec = tie.close (tie.spec either-requires returns shared-slice-read-result returns-2)

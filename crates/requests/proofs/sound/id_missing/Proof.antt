@@ -6,17 +6,17 @@ use borrow.Author.Needs.{needs}
 use Rattle.requests.proofs.sound.id_missing.Statement.{statement}
 use Rattle.requests.proofs.sound.id_missing.Tie as tie
 
-needs-old-requires : tie.Need-needs-old-requires
-needs-old-requires c κs = search needs
+either-requires : tie.Need-either-requires
+either-requires c κs = search needs
 
 placed-requires : tie.Need-placed-requires
 placed-requires c κs = search needs
 
 returns : tie.Need-returns
-returns c = ap not (c .placed .ensures) ∙ sym (and-is _ _ _ (sym (c .before .before .needs-old .ensures) ∙ c .before .if1 .taken) refl)
+returns c = ap not (c .placed .ensures) ∙ sym (and-is _ _ _ (sym (c .before .before .either .ensures) ∙ c .before .if1 .taken) refl)
 
 returns-2 : tie.Need-returns-2
-returns-2 c = sym (and-no _ _ (sym (c .before .needs-old .ensures) ∙ c .if1 .left))
+returns-2 c = sym (and-no _ _ (sym (c .before .either .ensures) ∙ c .if1 .left))
 
 pub id-missing-spec : {M : Type 1} → statement M
-id-missing-spec = tie.close (tie.spec needs-old-requires placed-requires returns returns-2)
+id-missing-spec = tie.close (tie.spec either-requires placed-requires returns returns-2)

@@ -5,17 +5,17 @@ use borrow.Author.Needs.{needs}
 use Rattle.requests.proofs.sound.id_taken.Statement.{statement}
 use Rattle.requests.proofs.sound.id_taken.Tie as tie
 
-makes-new-requires : tie.Need-makes-new-requires
-makes-new-requires c κs = search needs
+either-requires : tie.Need-either-requires
+either-requires c κs = search needs
 
 placed-requires : tie.Need-placed-requires
 placed-requires c κs = search needs
 
 returns : tie.Need-returns
-returns c = c .placed .ensures ∙ sym (and-is _ _ _ (sym (c .before .before .makes-new .ensures) ∙ c .before .if1 .taken) refl)
+returns c = c .placed .ensures ∙ sym (and-is _ _ _ (sym (c .before .before .either .ensures) ∙ c .before .if1 .taken) refl)
 
 returns-2 : tie.Need-returns-2
-returns-2 c = sym (and-no _ _ (sym (c .before .makes-new .ensures) ∙ c .if1 .left))
+returns-2 c = sym (and-no _ _ (sym (c .before .either .ensures) ∙ c .if1 .left))
 
 pub id-taken-spec : {M : Type 1} → statement M
-id-taken-spec = tie.close (tie.spec makes-new-requires placed-requires returns returns-2)
+id-taken-spec = tie.close (tie.spec either-requires placed-requires returns returns-2)

@@ -5,17 +5,17 @@ use borrow.Author.Needs.{needs}
 use Rattle.requests.proofs.sound.rule_over.Statement.{statement}
 use Rattle.requests.proofs.sound.rule_over.Tie as tie
 
-by-rule-requires : tie.Need-by-rule-requires
-by-rule-requires c κs = search needs
+either-requires : tie.Need-either-requires
+either-requires c κs = search needs
 
 shared-slice-read-result : tie.Need-shared-slice-read-result
 shared-slice-read-result c = search needs
 
 returns : tie.Need-returns
-returns c = sym (and-is _ _ _ (sym (c .before .before .by-rule .ensures) ∙ c .before .if1 .taken) refl)
+returns c = sym (and-is _ _ _ (sym (c .before .before .either .ensures) ∙ c .before .if1 .taken) refl)
 
 returns-2 : tie.Need-returns-2
-returns-2 c = sym (and-no _ _ (sym (c .before .by-rule .ensures) ∙ c .if1 .left))
+returns-2 c = sym (and-no _ _ (sym (c .before .either .ensures) ∙ c .if1 .left))
 
 pub rule-over-spec : {M : Type 1} → statement M
-rule-over-spec = tie.close (tie.spec by-rule-requires shared-slice-read-result returns returns-2)
+rule-over-spec = tie.close (tie.spec either-requires shared-slice-read-result returns returns-2)

@@ -49,8 +49,8 @@ byte-requires-6 c κs = search needs
 returns-2 : tie.Need-returns-2
 returns-2 c = stray-pin _ _ (ne-eqb _ _ (c .before .before .before .if1 .left)) (eq-eqb _ _ (c .before .if2 .taken)) (c .byte6 .ensures .0)
 
-by-rule-requires : tie.Need-by-rule-requires
-by-rule-requires c κs = search needs
+either-requires : tie.Need-either-requires
+either-requires c κs = search needs
 
 byte-requires-7 : tie.Need-byte-requires-7
 byte-requires-7 c κs = search needs
@@ -63,10 +63,10 @@ add-result-5 c = search needs
 
 returns-3 : tie.Need-returns-3
 returns-3 c = let b = c .before .before .before in
-    stray-rule _ _ _ (ne-eqb _ _ (b .before .before .before .if1 .left)) (ne-eqb _ _ (b .before .if2 .left)) (sym (b .by-rule .ensures) ∙ c .before .before .if3 .taken) (c .before .byte7 .ensures .0) (c .byte8 .ensures .0)
+    stray-rule _ _ _ (ne-eqb _ _ (b .before .before .before .if1 .left)) (ne-eqb _ _ (b .before .if2 .left)) (sym (b .either .ensures) ∙ c .before .before .if3 .taken) (c .before .byte7 .ensures .0) (c .byte8 .ensures .0)
 
 returns-4 : tie.Need-returns-4
-returns-4 c = stray-none _ (ne-eqb _ _ (c .before .before .before .before .if1 .left)) (ne-eqb _ _ (c .before .before .if2 .left)) (sym (c .before .by-rule .ensures) ∙ c .if3 .left)
+returns-4 c = stray-none _ (ne-eqb _ _ (c .before .before .before .before .if1 .left)) (ne-eqb _ _ (c .before .before .if2 .left)) (sym (c .before .either .ensures) ∙ c .if3 .left)
 
 pub stray-spec : {M : Type 1} → statement M
 stray-spec =
@@ -86,7 +86,7 @@ stray-spec =
     shared-slice-read-if2
     byte-requires-6
     returns-2
-    by-rule-requires
+    either-requires
     byte-requires-7
     byte-requires-8
     add-result-5

@@ -1,8 +1,8 @@
--- `requests::sound::by_rule` meets its contract. Assumes nothing.
+-- `requests::sound::either` meets its contract. Assumes nothing.
 use borrow.Author.Tests.{eq-eqb, ne-eqb}
 use borrow.Author.Needs.{needs}
-use Rattle.requests.proofs.sound.by_rule.Statement.{statement}
-use Rattle.requests.proofs.sound.by_rule.Tie as tie
+use Rattle.requests.proofs.sound.either.Statement.{statement}
+use Rattle.requests.proofs.sound.either.Tie as tie
 
 shared-slice-read-if1 : tie.Need-shared-slice-read-if1
 shared-slice-read-if1 c = search needs
@@ -16,6 +16,6 @@ shared-slice-read-result c = search needs
 returns-2 : tie.Need-returns-2
 returns-2 c = simp (ne-eqb _ _ (c .before .if1 .left))
 
-pub by-rule-spec : {M : Type 1} → statement M
-by-rule-spec =
+pub either-spec : {M : Type 1} → statement M
+either-spec =
     tie.close (tie.spec shared-slice-read-if1 returns shared-slice-read-result returns-2)

@@ -1,7 +1,7 @@
 -- WHAT A REQUEST COMES TO on a surface that stands, case by case: refused, placed, removed, pinned, exchanged. Assumes nothing.
 use mathlib.Core.Path.{_≡_, refl, sym, ap, _∙_, subst}
 use mathlib.Core.Bool.{Bool, true, false, not, cond, _&&_, _||_, false≢true}
-use mathlib.Core.List.{List, _++_}
+use mathlib.Core.List.{List, _∷_, _++_}
 use mathlib.Core.Option.{some}
 use Prim.Native.Nat.{ℕ, zero, suc, _+_, _≤_}
 use native.Mathlib.Decide.{ℕ-discrete}
@@ -12,7 +12,7 @@ use lib.IntN.{ℤ}
 use Rattle.rules.specs.Tests.{all}
 use Rattle.rules.specs.Surface.{Standing, slots, idOf, rectOf, freeRecord, withRecord, occupied}
 use Rattle.rules.specs.Empties.{cellsEmpty, empty, onSurface, Empty}
-use Rattle.rules.specs.Judging.{Line, first}
+use Rattle.rules.specs.Judging.{Line, _when_, first}
 use Rattle.rules.specs.Requests.{operation, ruleOf, idLow, idHigh, idAsked, wide, high, byte6, byte7, known, byRule, atPlace, makesNew, needsOld, hasSize, zeros, pinned, idPlaced, slotOf, someFree, lowestFree, ground, position, rulePlace, soundLines, placeLines, judging, orNone, acceptedStep, stepOf}
 use Rattle.rules.specs.declared.Rect.{Rect}
 use Rattle.rules.specs.declared.Step.{Step}
@@ -21,12 +21,16 @@ use Rattle.rules.proofs.Tests.{and-left, and-right, or-neither}
 use Rattle.meaning.proofs.Choice.{rule-finds, rulePlace-empty}
 use Rattle.meaning.proofs.Rectangles.{empty-is}
 use Rattle.meaning.proofs.Lowest.{rising, first-stop, first-over}
 use Rattle.modules.specs.Walk.{On}
 use Rattle.modules.specs.Change.{Placing, Taking}
 use Rattle.modules.proofs.Search.{slot-placed, slot-has, lowest-some, lowest-is}
-use Rattle.surface.proofs.CallLaws.{first-none}
 
 -- ---- lines none of which applies
+
+first-none : (b : Bool) (c : ℕ) (ls : List Line) → 1 ≤ c → first (c when b ∷ ls) ≡ 0 → (b ≡ false) × (first ls ≡ 0)
+unfolding first
+first-none true c ls h e = absurd (omega arith)
+first-none false c ls h e = (refl, e)
 
 pub first-parts : (ls ms : List Line) → rising 0 ls ≡ true → first (ls ++ ms) ≡ 0 → (first ls ≡ 0) × (first ms ≡ 0)
 first-parts ls ms u e = go (ℕ-discrete (first ls) 0)
@@ -161,15 +165,15 @@ unfolding empty
 empty-parts occ W H r e =
     (record { wide = e .wide; tall = e .tall; columns = e .columns; lines = e .lines }, and-right (onSurface W H r) (cellsEmpty occ r) (empty-is occ W H r .1 e))
 
-module _ (W H : ℕ) (s : List ℤ) (t q : List ℕ) (d : Standing W H s t) (a : Asking t q) where
-  -- sizes, where the operation has them
-  sizes : hasSize q ≡ true → (1 ≤ wide q) × (1 ≤ high q)
-  sizes e =
-      let z = or-neither (eqb (wide q) 0) (eqb (high q) 0) (then-false (hasSize q) _ e (a .size)) in
-      let w = eqb-false (wide q) 0 (z .0) in
-      let h = eqb-false (high q) 0 (z .1) in
-      (omega arith, omega arith)
+-- sizes, where the operation has them
+pub sizes : (t q : List ℕ) → Asking t q → hasSize q ≡ true → (1 ≤ wide q) × (1 ≤ high q)
+sizes t q a e =
+    let z = or-neither (eqb (wide q) 0) (eqb (high q) 0) (then-false (hasSize q) _ e (a .size)) in
+    let w = eqb-false (wide q) 0 (z .0) in
+    let h = eqb-false (high q) 0 (z .1) in
+    (omega arith, omega arith)
 
+module _ (W H : ℕ) (s : List ℤ) (t q : List ℕ) (d : Standing W H s t) (a : Asking t q) where
   -- the slot of an id that is placed
   pub taking : needsOld q ≡ true → Taking W H s t (slotOf t (idAsked q)) × (idOf t (slotOf t (idAsked q)) ≡ idAsked q)
   taking e =
@@ -182,7 +186,7 @@ module _ (W H : ℕ) (s : List ℤ) (t q : List ℕ) (d : Standing W H s t) (a :
     -- a place by rule
     chosen-place : byRule q ≡ true → hasSize q ≡ true → (r : Rect) × (rulePlace (occupied (ground t q)) W H (ruleOf q) (wide q) (high q) ≡ some r) × Empty (occupied (ground t q)) W H r
     chosen-place e h =
-        let z = sizes h in
+        let z = sizes t q a h in
         let p : position (occupied (ground t q)) W H (wide q) (high q) ≡ true = not-false _ (then-false (byRule q) _ e (f .position)) in
         let r = rule-finds (occupied (ground t q)) W H (ruleOf q) (wide q) (high q) (z .0) (z .1) .1 p in
         (r .0, r .1, rulePlace-empty (occupied (ground t q)) W H (ruleOf q) (wide q) (high q) (z .0) (z .1) (r .0) (r .1))
@@ -214,7 +218,7 @@ module _ (W H : ℕ) (s : List ℤ) (t q : List ℕ) (d : Standing W H s t) (a :
         removed e (step-accepted W H t q z ∙ step-for W H t q 2 e) (k .0) (k .1)
     came-for z (pin e) =
         let at : atPlace q ≡ true = ap (λ n. eqb n 3) e in
-        let n = sizes (ap (λ n. (eqb n 1 || eqb n 4) || eqb n 3) e) in
+        let n = sizes t q a (ap (λ n. (eqb n 1 || eqb n 4) || eqb n 3) e) in
         let b = or-neither (ltb W (byte6 q + wide q)) (ltb H (byte7 q + high q)) (then-false (atPlace q) _ at (f .on)) in
         let c : cellsEmpty (occupied (ground t q)) (pinned q) ≡ true = not-false _ (then-false (atPlace q) _ at (f .clear)) in
         let g : ground t q ≡ t = ground-for t q 3 e in
