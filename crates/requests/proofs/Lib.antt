@@ -1,12 +1,11 @@
 -- Laws on plain values. `Lines`: the code of a list of lines, line by line. `StepLaws`: what each operation comes to. `Accepted`: what an accepted
 -- request tells, and what serving leaves. `Turns`: the requests of a block in turn.
--- Laws for walks by hand. `Reading`: a reader taken apart and put together. `Again`: a `&mut [T]` lent again for a call. `Lent`: the three buffers
--- that requests are served on, lent so. `Gone`: how far the run of a block has come.
+-- Laws for walks by hand. `Reading`: a reader taken apart and put together. `Lent`: the three buffers that requests
+-- are served on, lent again for a call. `Gone`: how far the run of a block has come.
 pub mod Lines
 pub mod StepLaws
 pub mod Accepted
 pub mod Turns
 pub mod Reading
-pub mod Again
 pub mod Lent
 pub mod Gone
