@@ -21,7 +21,7 @@ use Rattle.meaning.proofs.Bound.{lt-or-le}
 use Rattle.meaning.proofs.Weights.{covers-within, Within, holds-covers}
 use Rattle.cells.specs.Weight.{takenZ, untaken}
 use Rattle.surface.specs.Rows.{RowWritten}
-use Rattle.surface.specs.Slots.{Gathered, tableStands}
+use Rattle.surface.specs.Slots.{Gathered, tableStands, Under}
 use Rattle.surface.specs.Marks.{Marked, markOf, MarkedTo, hasId, TakenTo, Takeable}
 use Rattle.surface.proofs.SlotLaws.{Sound, read-rect, means-sound, any-hit, any-miss, count-hit, count-miss, count-mono, falls-alike, falls-shared, table-stands}
 
@@ -341,9 +341,13 @@ module _ (W H : ℕ) (t : List ℕ) where
       }
 
   -- the used slot i, whose id and rectangle were read
-  module _ (i : ℕ) (ids : List ℕ) (n : ℕ) (m : List ℤ) (a : Takeable W H t i ids n m) (id : ℕ) (r : Rect) (p : id ≡ idOf t i) (q : r ≡ rectOf t i) where
+  module _ (i : ℕ) (ids : List ℕ) (n top : ℕ) (m : List ℤ) (a : Takeable W H t i ids n top m) (id : ℕ) (r : Rect) (p : id ≡ idOf t i) (q : r ≡ rectOf t i) where
     used-is : freeSlot t i ≡ false
     used-is = not-true (freeSlot t i) (a .used)
+
+    -- no id is over the larger of its own and those before it
+    pub take-under : (r : ℕ) → top ≤ r → id ≤ r → Under (set ids n id) (n + 1) r
+    take-under r h l = below-more _ n (λ k u. omega (arith, getD-set-other ids n k id 0 (λ z. omega arith), a .under k u)) (omega (arith, getD-set-same ids n id 0 (a .room)))
 
     pub take-alike : any n (λ k. eqb (getD ids k 0) id) ≡ true → tableStands W H t ≡ false
     take-alike e = falls-alike W H t i (a .low) (a .used) (ap (λ c. any i (hasId t c)) (sym p) ∙ sym (a .taken .noted id) ∙ e)

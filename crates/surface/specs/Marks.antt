@@ -9,7 +9,7 @@ use lib.IntN.{ℤ, pos, negℤ}
 use lib.ListN.{length, getD}
 use Rattle.rules.specs.Tests.{any, count, least}
 use Rattle.rules.specs.Surface.{slots, idOf, freeSlot, usedSlot, soundSlot, cell, holds, remaining}
-use Rattle.surface.specs.Slots.{tableStands}
+use Rattle.surface.specs.Slots.{tableStands, Under}
 
 -- the j rows from y of the columns x .. x + n - 1 are marked, and nothing else has changed
 pub record Marked (W : ℕ) (s₀ s : List ℤ) (x y n j : ℕ) : Type 0 where
@@ -43,18 +43,20 @@ pub record TakenTo (W H : ℕ) (t : List ℕ) (i : ℕ) (ids : List ℕ) (n : �
   pub marked : MarkedTo W H t i m
 
 -- what is asked before the used slot i is taken
-pub record Takeable (W H : ℕ) (t : List ℕ) (i : ℕ) (ids : List ℕ) (n : ℕ) (m : List ℤ) : Type 0 where
+pub record Takeable (W H : ℕ) (t : List ℕ) (i : ℕ) (ids : List ℕ) (n top : ℕ) (m : List ℤ) : Type 0 where
   pub wide : 1 ≤ W
   pub widest : W ≤ 64
   pub low : i < slots t
   pub used : usedSlot t i ≡ true
   pub room : n < length ids
+  pub under : Under ids n top
   pub taken : TakenTo W H t i ids n m
 
--- and what is left: it is taken too, or the surface does not stand
-pub record SlotTaken (W H : ℕ) (t : List ℕ) (i : ℕ) (ids : List ℕ) (n : ℕ) (m : List ℤ) (ok : Bool) : Type 0 where
-  pub more : ok ≡ true → TakenTo W H t (i + 1) ids (n + 1) m
-  pub falls : ok ≡ false → tableStands W H t ≡ false
+-- and what is left: it is taken too, and r is not 0 and what no id is over; or r is 0, and the surface does not stand
+pub record SlotTaken (W H : ℕ) (t : List ℕ) (i : ℕ) (ids : List ℕ) (n : ℕ) (m : List ℤ) (r : ℕ) : Type 0 where
+  pub more : (r ≡ 0 → ⊥) → TakenTo W H t (i + 1) ids (n + 1) m
+  pub under : (r ≡ 0 → ⊥) → Under ids (n + 1) r
+  pub falls : r ≡ 0 → tableStands W H t ≡ false
 
 pub record AllTaken (W H : ℕ) (t : List ℕ) (m : List ℤ) (ok : Bool) : Type 0 where
   pub is : ok ≡ tableStands W H t

@@ -2,7 +2,7 @@
 use mathlib.Core.Path.{_≡_}
 use mathlib.Core.Bool.{Bool, true, _&&_}
 use mathlib.Core.List.{List}
-use Prim.Native.Nat.{ℕ, _<_}
+use Prim.Native.Nat.{ℕ, _≤_, _<_}
 use lib.ListN.{getD}
 use Rattle.rules.specs.Tests.{count}
 use Rattle.rules.specs.Surface.{usedSlot, slotsSound, idsDiffer, modulesApart}
@@ -17,3 +17,7 @@ pub record Gathered (t u : List ℕ) (i n : ℕ) : Type 0 where
 -- "A surface stands when every slot is free or has an id ..; no two used slots have the same id; no two modules share a cell"
 unfoldable pub tableStands : ℕ → ℕ → List ℕ → Bool
 tableStands W H t = slotsSound W H t && idsDiffer t && modulesApart W H t
+
+-- none of the first n ids is over top
+abbrev pub Under : List ℕ → ℕ → ℕ → Type 0
+Under ids n top = (k : ℕ) → k < n → getD ids k 0 ≤ top

@@ -8,7 +8,8 @@ ghost use Rattle.rules.specs.Surface.{slots};
 ghost use Rattle.cells.specs.Weight.{untaken};
 ghost use Rattle.surface.specs.Slots.{Gathered};
 ghost use Rattle.surface.specs.Marks.{Marked, TakenTo, Takeable, SlotTaken, AllTaken};
-use super::slots::seen;
+use super::slots::known;
+use super::slots::larger;
 use super::slots::sound;
 
 // The cells of the mw by mh rectangle at (x, y), each looked at before it is marked with the width that remains. Both walks end at the first that is
@@ -36,7 +37,8 @@ fn mark(m: &mut [i16], w: usize, x: usize, y: usize, mw: usize, mh: usize) -> bo
     free
 }
 
-// The used slot i, with n ids noted before it: it has to be sound, its id new and its cells not taken.
+// The used slot i, with n ids noted before it, none of them over top: it has to be sound, its id new and its cells not taken. The result is what no id
+// is over now, 0 where the surface does not stand.
 fn take_slot(
     t: &[u8],
     i: usize,
@@ -44,24 +46,25 @@ fn take_slot(
     h: usize,
     ids: &mut [u16],
     n: usize,
+    top: usize,
     m: &mut [i16],
-) -> bool
-    requires { ⌜ Takeable w h (now t) i (now ids) n (now m) ⌝ }
+) -> usize
+    requires { ⌜ Takeable w h (now t) i (now ids) n top (now m) ⌝ }
     ensures { λ r. ⌜ SlotTaken w h (now (t .entry)) i (now (ids .exit)) n (now (m .exit)) r ⌝ }
 {
     let id = table::id_at(t, i);
     let r = table::rect_at(t, i);
     if !sound(t, i, id, r, w, h) {
-        return false;
+        return 0;
     }
-    if seen(ids, n, id as u16) {
-        return false;
+    if known(ids, n, id as u16, top) {
+        return 0;
     }
     if !mark(m, w, r.x, r.y, r.w, r.h) {
-        return false;
+        return 0;
     }
     ids[n] = id as u16;
-    true
+    larger(top, id)
 }
 
 // The n used slots in turn: whether the table's part of "a surface stands" holds. If so, all modules are marked.
@@ -77,11 +80,14 @@ pub fn take_all(
     requires { ⌜ (1 ≤ w) × (w ≤ 64) × Gathered (now t) (now used) (slots (now t)) n × (n ≤ length (now used)) × (n ≤ length (now ids)) × TakenTo w h (now t) 0 (now ids) 0 (now m) ⌝ }
     ensures { λ r. ⌜ AllTaken w h (now (t .entry)) (now (m .exit)) r ⌝ }
 {
+    let mut top = 0;
     let mut k = 0;
     while k < n {
-        if !take_slot(t, used[k] as usize, w, h, ids, k, m) {
+        let over = take_slot(t, used[k] as usize, w, h, ids, k, top, m);
+        if over == 0 {
             return false;
         }
+        top = over;
         k += 1;
     }
     true

@@ -5,7 +5,7 @@ ghost use lib.Dec.{eqb};
 ghost use lib.ListN.{length, getD};
 ghost use Rattle.rules.specs.Tests.{any};
 ghost use Rattle.rules.specs.Surface.{slots, idOf, rectOf, soundSlot};
-ghost use Rattle.surface.specs.Slots.{Gathered};
+ghost use Rattle.surface.specs.Slots.{Gathered, Under};
 use rules::Rect;
 
 // The numbers of the used slots go side by side into a lent buffer; the result is how many. It is a loop of its own so that a free slot, the
@@ -51,7 +51,7 @@ pub fn sound(t: &[u8], i: usize, id: usize, r: Rect, w: usize, h: usize) -> bool
 }
 
 // Whether the id is one of the first n. It looks at all of them, so that the compiler takes many at a time.
-pub fn seen(ids: &[u16], n: usize, id: u16) -> bool
+fn seen(ids: &[u16], n: usize, id: u16) -> bool
     requires { ⌜ n ≤ length (now ids) ⌝ }
     ensures { λ r. ⌜ r ≡ any n (λ k. eqb (getD (now (ids .entry)) k 0) id) ⌝ }
 {
@@ -64,4 +64,28 @@ pub fn seen(ids: &[u16], n: usize, id: u16) -> bool
         k += 1;
     }
     found
+}
+
+// The same, given a number that none of the first n is over: an id over it is new. Ids that were given out in turn are mostly so.
+pub fn known(ids: &[u16], n: usize, id: u16, top: usize) -> bool
+    requires { ⌜ (n ≤ length (now ids)) × Under (now ids) n top ⌝ }
+    ensures { λ r. ⌜ r ≡ any n (λ k. eqb (getD (now (ids .entry)) k 0) id) ⌝ }
+{
+    if top < wide(id) {
+        return false;
+    }
+    seen(ids, n, id)
+}
+
+fn wide(id: u16) -> usize
+    ensures { λ r. ⌜ r ≡ id ⌝ }
+{
+    id as usize
+}
+
+// The larger of two numbers.
+pub fn larger(a: usize, b: usize) -> usize
+    ensures { λ r. ⌜ (a ≤ r) × (b ≤ r) ⌝ }
+{
+    if a < b { b } else { a }
 }

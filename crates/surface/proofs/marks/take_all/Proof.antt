@@ -2,20 +2,20 @@ use mathlib.Core.Path.{_≡_, refl, sym, _∙_}
 use mathlib.Core.Bool.{false≢true}
 use Prim.Native.Nat.{_+_, _≤_, _<_, _-_}
 use native.Mathlib.Omega.{arith}
-use borrow.Author.Tests.{not-true, not-false}
 use lib.ListN.{length, getD}
+use Rattle.surface.specs.Slots.{Under}
 use Rattle.surface.proofs.MarkLaws.{Reached, take-next, take-last, take-all}
 use Rattle.surface.proofs.marks.take_all.Statement.{statement}
 use Rattle.surface.proofs.marks.take_all.Tie as tie
 
 abbrev Inv-loop : tie.InvT-loop
-Inv-loop t w h used n ids₀ m₀ k₀ ids m k = (k ≤ n) × (length ids ≡ length ids₀) × (length m ≡ length m₀) × Reached w h t ids k m
+Inv-loop t w h used n ids₀ m₀ top₀ k₀ ids m top k = (k ≤ n) × (length ids ≡ length ids₀) × (length m ≡ length m₀) × Reached w h t ids k m × Under ids k top
 
 abbrev μ-loop : tie.MeasureT-loop
-μ-loop t w h used n ids₀ m₀ k₀ ids m k = n - k
+μ-loop t w h used n ids₀ m₀ top₀ k₀ ids m top k = n - k
 
 loop-holds : tie.Need-loop-holds Inv-loop μ-loop
-loop-holds c = (omega arith, refl, refl, record { at = 0; low = omega arith; taken = c .before .before .before .pre .5 })
+loop-holds c = (omega arith, refl, refl, record { at = 0; low = omega arith; taken = c .before .before .before .pre .5 }, (λ k h. absurd (omega arith)))
 
 shared-slice-read-take-slot : tie.Need-shared-slice-read-take-slot Inv-loop μ-loop
 shared-slice-read-take-slot c = omega arith
@@ -36,6 +36,7 @@ take-slot-requires c κs =
       low = g .low (l .k) h;
       used = g .used (l .k) h;
       room = omega (arith, l .inv .1);
+      under = l .inv .4;
       taken = take-next (a .w) (a .h) (a .t .now) (l .ids) (l .k) (l .m) (a .used .now) (a .n) g h (l .inv .3);
     }
 
@@ -43,8 +44,8 @@ take-slot-requires c κs =
 ids-long : (c : tie.After-m Inv-loop μ-loop) → length (c .before .before .before .take-slot .last .1 .1 .1 .1 .0) ≡ length (c .before .before .before .before .before .before .before .before .before .before .before .before .args .ids .now)
 ids-long c = c .before .before .before .take-slot .kept .1 .1 .1 .1 .0 ∙ c .before .before .before .before .before .before .before .before .loop .inv .1
 
-m-long : (c : tie.After-m Inv-loop μ-loop) → length (c .before .before .before .take-slot .last .1 .1 .1 .1 .1 .1 .0) ≡ length (c .before .before .before .before .before .before .before .before .before .before .before .before .args .m .now)
-m-long c = c .before .before .before .take-slot .kept .1 .1 .1 .1 .1 .1 .0 ∙ c .before .before .before .before .before .before .before .before .loop .inv .2
+m-long : (c : tie.After-m Inv-loop μ-loop) → length (c .before .before .before .take-slot .last .1 .1 .1 .1 .1 .1 .1 .0) ≡ length (c .before .before .before .before .before .before .before .before .before .before .before .before .args .m .now)
+m-long c = c .before .before .before .take-slot .kept .1 .1 .1 .1 .1 .1 .1 .0 ∙ c .before .before .before .before .before .before .before .before .loop .inv .2
 
 same-length : tie.Need-same-length Inv-loop μ-loop
 same-length c = ids-long (c .before)
@@ -54,7 +55,7 @@ same-length-2 c = m-long (c .before)
 
 returns : tie.Need-returns Inv-loop μ-loop
 returns c = record {
-  is = sym (c .before .before .before .before .take-slot .ensures .falls (not-true _ (c .if1 .taken)));
+  is = sym (c .before .before .before .before .take-slot .ensures .falls (c .if1 .taken));
   marked = λ e. absurd (false≢true e);
 }
 
@@ -69,7 +70,7 @@ loop-again c =
     let l = c .before .before .before .before .before .before .before .before .before .loop in
     let s = c .before .before .before .before .before .before .before .before .before .before .before .before .before in
     let low = s .pre .2 .low (l .k) (omega arith) in
-    (omega arith, ids-long (c .before), m-long (c .before), record { at = getD (s .args .used .now) (l .k) 0 + 1; low = omega (arith, low); taken = c .before .before .before .before .take-slot .ensures .more (not-false _ (c .if1 .left)) })
+    (omega arith, ids-long (c .before), m-long (c .before), record { at = getD (s .args .used .now) (l .k) 0 + 1; low = omega (arith, low); taken = c .before .before .before .before .take-slot .ensures .more (c .if1 .left) }, c .before .before .before .before .take-slot .ensures .under (c .if1 .left))
 
 same-length-3 : tie.Need-same-length-3 Inv-loop μ-loop
 same-length-3 c = c .before .loop .inv .1
