@@ -3,8 +3,10 @@
 # rectangles. The first run proves every layer below the program and takes some minutes.
 set -eu
 cd "$(dirname "$0")"
+. tests/need.sh
+need_emulator
 command -v rt >/dev/null 2>&1 || { echo "run-example.sh: the Rattle toolchain's rt is not on the path"; exit 1; }
 
 mkdir -p build
 rt check freelist >build/example 2>&1 || { cat build/example; exit 1; }
-target/bin/freelist <crates/freelist/stdin
+$start target/bin/freelist <crates/freelist/stdin

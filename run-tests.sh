@@ -7,9 +7,6 @@ cd "$(dirname "$0")"
 . tests/need.sh
 need gcc gcc libc6-dev
 need awk gawk
-need nm binutils
-need valgrind valgrind
-need g++ g++
 need pkg-config pkgconf
 command -v rt >/dev/null 2>&1 || { echo "run-tests.sh: the Rattle toolchain's rt is not on the path"; exit 1; }
 

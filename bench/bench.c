@@ -3,6 +3,7 @@
  *   bench count            each measured call once, C before the library
  *   bench table COUNTS     the table; COUNTS has the instructions of each call
  *                          of "bench count", one a line, in its order
+ *   bench times            for each row the least of many times, freelist to C
  *   bench compare SEED N   N rounds of drawn surfaces and blocks, both compared
  *
  * Exit status 1 when results or bytes differ. */
@@ -21,9 +22,7 @@
 
 /* The plain C once more under another name, so that what is counted is only
  * what is measured. */
-uint64_t setup_run(uint64_t w, uint64_t h, uint8_t *weights, uint64_t weights_len,
-                   uint8_t *table, uint64_t table_len, const uint8_t *requests,
-                   uint64_t requests_len, uint8_t *answers, uint64_t answers_len);
+DECLARE_CALLS(setup);
 
 /* ---- both sides ------------------------------------------------------------ */
 
@@ -35,14 +34,16 @@ struct lent {
     uint8_t weights[2 * 64 * 64], table[8 * 256], requests[8 * 512], answers[8 * 512], room[8 * 64 * 64];
 };
 
+DEFINE_ON(plain)
+DEFINE_ON(freelist)
+
 static uint64_t on(unsigned side, struct lent *l)
 {
-    static const struct four sides[SIDES] = {
-        [PLAIN] = { plain_clear, plain_check, plain_run, plain_list },
-        [LIBRARY] = { freelist_clear, freelist_check, freelist_run, freelist_list } };
-    uint8_t *p[BUFFERS] = { l->weights, l->table, l->requests, l->answers, l->room };
-    uint64_t len[BUFFERS] = { 2 * l->w * l->h, sizeof l->table, l->requests_len, l->requests_len, l->room_len };
-    return make_call(&sides[side], l->call, l->w, l->h, p, len);
+    struct loans lent = {
+        l->w, l->h,
+        { l->weights, l->table, l->requests, l->answers, l->room },
+        { 2 * l->w * l->h, sizeof l->table, l->requests_len, l->requests_len, l->room_len } };
+    return side == PLAIN ? on_plain(l->call, &lent) : on_freelist(l->call, &lent);
 }
 
 /* ---- rows of the table ------------------------------------------------------ */
@@ -191,6 +192,31 @@ static void add_surface(const char *list, const char *check)
     add_row(list, 1, 1);
 }
 
+/* The ids of the table in the order of its slots, the last one first. */
+static void turn_ids(void)
+{
+    uint8_t *table = c.lent[TABLE].byte;
+    unsigned n = laid_modules();
+    for (unsigned i = 0; i < n; i++) {
+        table[8 * i] = (uint8_t)((n - i) % 256);
+        table[8 * i + 1] = (uint8_t)((n - i) / 256);
+    }
+}
+
+/* A check of 256 single cells on 16x16: the table full, its ids rising from slot
+ * to slot, and falling. */
+static void add_full_tables(void)
+{
+    begin(16, 16);
+    for (unsigned i = 0; i < 256; i++)
+        lay(i % 16, i / 16, 1, 1);
+    add_call(CHECK, painted());
+    add_row("check, 256 single cells, ids rising", 1, 1);
+    turn_ids();
+    add_call(CHECK, painted());
+    add_row("check, 256 single cells, ids falling", 1, 1);
+}
+
 static void add_surfaces(void)
 {
     static const char *const lists[] = { "list, 10 %", "list, 50 %", "list, 90 %" };
@@ -232,7 +258,7 @@ static int ask_now(uint8_t *to, uint64_t q)
     memcpy(to, &q, 8);
     uint64_t r = setup_run(now.w, now.h, now.weights, 2 * now.w * now.h, now.table, sizeof now.table,
                            to, 8, answer, 8);
-    if ((r & 0xffff) != 0)
+    if (part_of(r, 0) != 0)
         abort();
     return answer[0] == 0;
 }
@@ -315,6 +341,7 @@ static void add_small_blocks(unsigned side)
 static void make_all(void)
 {
     add_surfaces();
+    add_full_tables();
     add_blocks("run 512, sides 1–25, lives 1–1000", 64, 25, 1000, 4);
     add_blocks("run 512, sides 1–25, lives 1–50", 64, 25, 50, 4);
     add_blocks("run 512, sides 1–8, lives 1–500", 64, 8, 500, 4);
@@ -360,7 +387,7 @@ static int count(void)
     make_all();
     for (unsigned i = 0; i < row_count; i++)
         for (unsigned k = 0; k < rows[i].calls; k++)
-            if ((both_on(&measured[rows[i].first + k], rows[i].name) & 0xffff) != 0)
+            if (part_of(both_on(&measured[rows[i].first + k], rows[i].name), 0) != 0)
                 differ++;
     return differ != 0;
 }
@@ -449,12 +476,10 @@ static void print_row(const struct row *r)
 {
     const struct lent *l = &measured[r->first];
     unsigned used, occupied, scanned;
-    double t[SIDES];
     double plain = (double)average(r, PLAIN), library = (double)average(r, LIBRARY);
     measure(l, &used, &occupied, &scanned);
-    times_of(r, t);
-    printf("| %s | %u×%u | %u | %u | %u | %.0f | %.0f | %.2f | %.2f |", r->name, l->w, l->h, used,
-           100 * occupied / (l->w * l->h), scanned, plain, library, library / plain, t[LIBRARY] / t[PLAIN]);
+    printf("| %s | %u×%u | %u | %u | %u | %.0f | %.0f | %.2f |", r->name, l->w, l->h, used,
+           100 * occupied / (l->w * l->h), scanned, plain, library, library / plain);
     if (l->call == LIST) {
         const struct row *check = r - 1;
         for (unsigned side = 0; side < SIDES; side++)
@@ -464,7 +489,6 @@ static void print_row(const struct row *r)
     } else {
         printf(" | |\n");
     }
-    fflush(stdout);
 }
 
 static int table(const char *path)
@@ -472,11 +496,25 @@ static int table(const char *path)
     make_all();
     read_counts(path);
     printf("| case | W×H | modules | occupied %% | scanned cells | instructions C | instructions freelist |"
-           " ratio | time ratio | C per scanned cell, list less check | freelist per scanned cell |\n"
-           "|---|---|---|---|---|---|---|---|---|---|---|\n");
+           " ratio | C per scanned cell, list less check | freelist per scanned cell |\n"
+           "|---|---|---|---|---|---|---|---|---|---|\n");
     for (unsigned i = 0; i < row_count; i++)
         if (rows[i].is_shown)
             print_row(&rows[i]);
+    return 0;
+}
+
+static int times(void)
+{
+    make_all();
+    printf("| case | W×H | time, freelist to C |\n|---|---|---|\n");
+    for (unsigned i = 0; i < row_count; i++)
+        if (rows[i].is_shown) {
+            const struct lent *l = &measured[rows[i].first];
+            double t[SIDES];
+            times_of(&rows[i], t);
+            printf("| %s | %u×%u | %.2f |\n", rows[i].name, l->w, l->h, t[LIBRARY] / t[PLAIN]);
+        }
     return 0;
 }
 
@@ -487,7 +525,7 @@ static unsigned long compared;
 static void compare_call(struct lent *l, unsigned call)
 {
     l->call = call;
-    both_on(l, call_names[call]);
+    both_on(l, call_name(call));
     compared++;
 }
 
@@ -554,8 +592,10 @@ int main(int argc, char **argv)
         return count();
     if (argc == 3 && strcmp(argv[1], "table") == 0)
         return table(argv[2]);
+    if (argc == 2 && strcmp(argv[1], "times") == 0)
+        return times();
     if (argc == 4 && strcmp(argv[1], "compare") == 0)
         return compare(strtoull(argv[2], NULL, 10), strtoul(argv[3], NULL, 10));
-    fprintf(stderr, "bench count\nbench table COUNTS\nbench compare SEED N\n");
+    fprintf(stderr, "bench count\nbench table COUNTS\nbench times\nbench compare SEED N\n");
     return 2;
 }

@@ -8,7 +8,8 @@
 
 #include <string.h>
 
-enum { SIDE = 64, SLOTS = 256, REQUESTS = 512, RECORD = 8 };
+enum { SIDE = 64, SLOTS = 256, BLOCK = 512, RECORD = 8 };
+enum { PLACE = 1, REMOVE = 2, PIN = 3, EXCHANGE = 4 };
 
 static inline int get16(const uint8_t *p)
 {
@@ -442,36 +443,49 @@ static void enter(struct surface *s, unsigned slot, unsigned id, struct module m
         s->top = slot + 1;
 }
 
-static unsigned place(struct surface *s, struct request q, struct module *m)
+/* The bytes that must be zero, all together. */
+static inline unsigned spare_bytes(struct request q)
 {
-    if ((q.b6 | q.b7) != 0)
+    if (q.op == PIN)
+        return q.rule;
+    return q.op == REMOVE ? q.rule | q.w | q.h | q.b6 | q.b7 : q.b6 | q.b7;
+}
+
+/* Codes 11 to 19. The slot is that of the id, or for a new module the lowest free
+ * one. */
+static inline unsigned refusal(const struct surface *s, struct request q, unsigned *slot)
+{
+    int by_rule = q.op == PLACE || q.op == EXCHANGE, is_new = q.op == PLACE || q.op == PIN;
+    if (q.op < PLACE || q.op > EXCHANGE)
+        return 11;
+    if (spare_bytes(q) != 0)
         return 12;
-    if (q.rule > 2)
+    if (by_rule && q.rule > 2)
         return 13;
     if (q.id == 0)
         return 14;
-    if (find(s, q.id) < s->top)
-        return 15;
-    if (q.w == 0 || q.h == 0)
+    *slot = find(s, q.id);
+    if (is_new != (*slot == s->top))
+        return is_new ? 15 : 16;
+    if (q.op != REMOVE && (q.w == 0 || q.h == 0))
         return 17;
-    unsigned slot = free_slot(s);
-    if (slot == s->slots)
-        return 19;
+    if (q.op == PIN && (q.b6 + q.w > s->W || q.b7 + q.h > s->H))
+        return 18;
+    if (is_new)
+        *slot = free_slot(s);
+    return is_new && *slot == s->slots ? 19 : 0;
+}
+
+static unsigned place(struct surface *s, unsigned slot, struct request q, struct module *m)
+{
     if (!choose(s, q.rule, q.w, q.h, m))
         return 20;
     enter(s, slot, q.id, *m);
     return 0;
 }
 
-static unsigned remove_module(struct surface *s, struct request q, struct module *m)
+static unsigned remove_module(struct surface *s, unsigned slot, struct module *m)
 {
-    if ((q.rule | q.w | q.h | q.b6 | q.b7) != 0)
-        return 12;
-    if (q.id == 0)
-        return 14;
-    unsigned slot = find(s, q.id);
-    if (slot == s->top)
-        return 16;
     *m = module_of(slot_at(s, slot));
     lift(s, *m);
     put64(s->table + RECORD * slot, 0);
@@ -481,22 +495,9 @@ static unsigned remove_module(struct surface *s, struct request q, struct module
     return 0;
 }
 
-static unsigned pin(struct surface *s, struct request q, struct module *m)
+static unsigned pin(struct surface *s, unsigned slot, struct request q, struct module *m)
 {
     *m = (struct module){ q.b6, q.b7, q.w, q.h };
-    if (q.rule != 0)
-        return 12;
-    if (q.id == 0)
-        return 14;
-    if (find(s, q.id) < s->top)
-        return 15;
-    if (q.w == 0 || q.h == 0)
-        return 17;
-    if (m->x + m->w > s->W || m->y + m->h > s->H)
-        return 18;
-    unsigned slot = free_slot(s);
-    if (slot == s->slots)
-        return 19;
     if (!is_empty(s, *m))
         return 21;
     enter(s, slot, q.id, *m);
@@ -505,19 +506,8 @@ static unsigned pin(struct surface *s, struct request q, struct module *m)
 
 /* "judged on the surface without the old module and keeps its slot; refused,
  * the old one stays" */
-static unsigned exchange(struct surface *s, struct request q, struct module *m)
+static unsigned exchange(struct surface *s, unsigned slot, struct request q, struct module *m)
 {
-    if ((q.b6 | q.b7) != 0)
-        return 12;
-    if (q.rule > 2)
-        return 13;
-    if (q.id == 0)
-        return 14;
-    unsigned slot = find(s, q.id);
-    if (slot == s->top)
-        return 16;
-    if (q.w == 0 || q.h == 0)
-        return 17;
     struct module old = module_of(slot_at(s, slot));
     lift(s, old);
     if (!choose(s, q.rule, q.w, q.h, m)) {
@@ -531,12 +521,14 @@ static unsigned exchange(struct surface *s, struct request q, struct module *m)
 
 static inline unsigned serve(struct surface *s, struct request q, struct module *m)
 {
+    unsigned slot = 0, code = refusal(s, q, &slot);
+    if (code != 0)
+        return code;
     switch (q.op) {
-    case 1: return place(s, q, m);
-    case 2: return remove_module(s, q, m);
-    case 3: return pin(s, q, m);
-    case 4: return exchange(s, q, m);
-    default: return 11;
+    case PLACE: return place(s, slot, q, m);
+    case REMOVE: return remove_module(s, slot, m);
+    case PIN: return pin(s, slot, q, m);
+    default: return exchange(s, slot, q, m);
     }
 }
 
@@ -562,9 +554,7 @@ static void fill_row(uint8_t *row, unsigned W, unsigned weight)
 }
 
 /* "Clear frees all slots and gives cell (x, y) weight y + 1." */
-uint64_t plain_clear(uint64_t w, uint64_t h,
-                     uint8_t *weights, uint64_t weights_len,
-                     uint8_t *table, uint64_t table_len)
+uint64_t plain_clear(uint64_t w, uint64_t h, WRITTEN(weights), WRITTEN(table))
 {
     unsigned code = sizes_code(w, h, weights_len, table_len);
     if (code != 0)
@@ -575,9 +565,7 @@ uint64_t plain_clear(uint64_t w, uint64_t h,
     return 0;
 }
 
-uint64_t plain_check(uint64_t w, uint64_t h,
-                     const uint8_t *weights, uint64_t weights_len,
-                     const uint8_t *table, uint64_t table_len)
+uint64_t plain_check(uint64_t w, uint64_t h, READ(weights), READ(table))
 {
     struct surface s;
     unsigned code = sizes_code(w, h, weights_len, table_len);
@@ -587,17 +575,13 @@ uint64_t plain_check(uint64_t w, uint64_t h,
     return stands(&s) ? result(0, s.used, 0) : result(6, 0, 0);
 }
 
-uint64_t plain_run(uint64_t w, uint64_t h,
-                   uint8_t *weights, uint64_t weights_len,
-                   uint8_t *table, uint64_t table_len,
-                   const uint8_t *requests, uint64_t requests_len,
-                   uint8_t *answers, uint64_t answers_len)
+uint64_t plain_run(uint64_t w, uint64_t h, WRITTEN(weights), WRITTEN(table), READ(requests), WRITTEN(answers))
 {
     struct surface s;
     unsigned accepted = 0, code = sizes_code(w, h, weights_len, table_len);
     if (code != 0)
         return result(code, 0, 0);
-    if (requests_len % RECORD != 0 || requests_len > REQUESTS * RECORD)
+    if (requests_len % RECORD != 0 || requests_len > BLOCK * RECORD)
         return result(4, 0, 0);
     if (answers_len != requests_len)
         return result(5, 0, 0);
@@ -616,10 +600,7 @@ uint64_t plain_run(uint64_t w, uint64_t h,
 
 /* A row has at most W entries, one for each stair taken from the stack. Where
  * the room may be too short, the list goes to a buffer first. */
-uint64_t plain_list(uint64_t w, uint64_t h,
-                    const uint8_t *weights, uint64_t weights_len,
-                    const uint8_t *table, uint64_t table_len,
-                    uint8_t *room, uint64_t room_len)
+uint64_t plain_list(uint64_t w, uint64_t h, READ(weights), READ(table), WRITTEN(room))
 {
     struct surface s;
     uint8_t buffer[RECORD * SIDE * SIDE];

@@ -111,7 +111,7 @@ extern "C" {
 /* The parts of a result. */
 static inline unsigned freelist_code(uint64_t result) { return (unsigned)(result & 0xffffu); }
 static inline unsigned freelist_first(uint64_t result) { return (unsigned)(result >> 16 & 0xffffu); }
-static inline unsigned freelist_second(uint64_t result) { return (unsigned)(result >> 32); }
+static inline unsigned freelist_second(uint64_t result) { return (unsigned)(result >> 32 & 0xffffu); }
 
 /* Frees all slots and gives cell (x, y) weight y + 1. No counts.
  * Writes to all of weights and table. */

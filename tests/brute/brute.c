@@ -84,14 +84,18 @@ static struct rectangle slot_module(const uint8_t *slot)
     return m;
 }
 
+/* An id, low byte first, then x, y, w, h: what a slot begins with, and what an
+ * answer has behind its code and operation. */
+static void put_module(uint8_t *to, unsigned id, struct rectangle m)
+{
+    unsigned bytes[6] = { id % 256, id / 256, m.x, m.y, m.w, m.h };
+    for (unsigned i = 0; i < 6; i++)
+        to[i] = (uint8_t)bytes[i];
+}
+
 static void write_slot(uint8_t *slot, unsigned id, struct rectangle m)
 {
-    slot[0] = (uint8_t)(id % 256);
-    slot[1] = (uint8_t)(id / 256);
-    slot[2] = (uint8_t)m.x;
-    slot[3] = (uint8_t)m.y;
-    slot[4] = (uint8_t)m.w;
-    slot[5] = (uint8_t)m.h;
+    put_module(slot, id, m);
     slot[6] = 0;
     slot[7] = 0;
 }
@@ -603,12 +607,7 @@ static void write_answer(uint8_t *answer, unsigned code, const struct request *q
     struct rectangle r = code == 0 ? place : none;
     answer[0] = (uint8_t)code;
     answer[1] = (uint8_t)q->operation;
-    answer[2] = (uint8_t)(q->id % 256);
-    answer[3] = (uint8_t)(q->id / 256);
-    answer[4] = (uint8_t)r.x;
-    answer[5] = (uint8_t)r.y;
-    answer[6] = (uint8_t)r.w;
-    answer[7] = (uint8_t)r.h;
+    put_module(answer + 2, q->id, r);
 }
 
 /* "A refused request changes neither weights nor table, and the block goes
@@ -656,6 +655,22 @@ static unsigned block_code(uint64_t requests_len, uint64_t answers_len)
     return 0;
 }
 
+/* "6: the surface does not stand", after 1, 2 and 3; run has 4 and 5 between. */
+static unsigned standing_code(uint64_t w, uint64_t h, const uint8_t *weights,
+                              const uint8_t *table, uint64_t table_len)
+{
+    unsigned slots = (unsigned)(table_len / RECORD);
+    return surface_stands((unsigned)w, (unsigned)h, weights, table, slots) ? 0 : 6;
+}
+
+static unsigned examined_code(uint64_t w, uint64_t h,
+                              const uint8_t *weights, uint64_t weights_len,
+                              const uint8_t *table, uint64_t table_len)
+{
+    unsigned code = size_code(w, h, weights_len, table_len);
+    return code != 0 ? code : standing_code(w, h, weights, table, table_len);
+}
+
 /* "Clear frees all slots and gives cell (x, y) weight y + 1." */
 uint64_t brute_clear(uint64_t w, uint64_t h,
                      uint8_t *weights, uint64_t weights_len,
@@ -677,13 +692,10 @@ uint64_t brute_check(uint64_t w, uint64_t h,
                      const uint8_t *weights, uint64_t weights_len,
                      const uint8_t *table, uint64_t table_len)
 {
-    unsigned code = size_code(w, h, weights_len, table_len);
+    unsigned code = examined_code(w, h, weights, weights_len, table, table_len);
     if (code != 0)
         return refused(code);
-    unsigned slots = (unsigned)(table_len / RECORD);
-    if (!surface_stands((unsigned)w, (unsigned)h, weights, table, slots))
-        return refused(6);
-    unsigned used = 0;
+    unsigned used = 0, slots = (unsigned)(table_len / RECORD);
     for (unsigned i = 0; i < slots; i++)
         if (!slot_is_free(table + RECORD * i))
             used++;
@@ -702,12 +714,11 @@ uint64_t brute_run(uint64_t w, uint64_t h,
     unsigned code = size_code(w, h, weights_len, table_len);
     if (code == 0)
         code = block_code(requests_len, answers_len);
+    if (code == 0)
+        code = standing_code(w, h, weights, table, table_len);
     if (code != 0)
         return refused(code);
-    unsigned slots = (unsigned)(table_len / RECORD);
-    if (!surface_stands((unsigned)w, (unsigned)h, weights, table, slots))
-        return refused(6);
-    unsigned accepted = 0;
+    unsigned accepted = 0, slots = (unsigned)(table_len / RECORD);
     for (uint64_t at = 0; at < requests_len; at += RECORD)
         if (run_request((unsigned)w, (unsigned)h, weights, table, slots,
                         requests + at, answers + at) == 0)
@@ -725,13 +736,10 @@ uint64_t brute_list(uint64_t w, uint64_t h,
 {
     struct surface s;
     struct list list;
-    unsigned code = size_code(w, h, weights_len, table_len);
+    unsigned code = examined_code(w, h, weights, weights_len, table, table_len);
     if (code != 0)
         return refused(code);
-    unsigned slots = (unsigned)(table_len / RECORD);
-    if (!surface_stands((unsigned)w, (unsigned)h, weights, table, slots))
-        return refused(6);
-    read_surface(&s, (unsigned)w, (unsigned)h, table, slots);
+    read_surface(&s, (unsigned)w, (unsigned)h, table, (unsigned)(table_len / RECORD));
     list_maximal(&s, &list);
     if (room_len < (uint64_t)RECORD * list.count)
         return refused(7);

@@ -8,25 +8,8 @@
 #ifndef BRUTE_H
 #define BRUTE_H
 
-#include <stdint.h>
+#include "../table.h"
 
-uint64_t brute_clear(uint64_t w, uint64_t h,
-                     uint8_t *weights, uint64_t weights_len,
-                     uint8_t *table, uint64_t table_len);
-
-uint64_t brute_check(uint64_t w, uint64_t h,
-                     const uint8_t *weights, uint64_t weights_len,
-                     const uint8_t *table, uint64_t table_len);
-
-uint64_t brute_run(uint64_t w, uint64_t h,
-                   uint8_t *weights, uint64_t weights_len,
-                   uint8_t *table, uint64_t table_len,
-                   const uint8_t *requests, uint64_t requests_len,
-                   uint8_t *answers, uint64_t answers_len);
-
-uint64_t brute_list(uint64_t w, uint64_t h,
-                    const uint8_t *weights, uint64_t weights_len,
-                    const uint8_t *table, uint64_t table_len,
-                    uint8_t *room, uint64_t room_len);
+DECLARE_CALLS(brute);
 
 #endif

@@ -4,7 +4,7 @@
 
 #include <string.h>
 
-enum { RECORD = 8, CLEAR = 5, NO_SURFACE = 8 };
+enum { RECORD = 8, CLEAR_OPERATION = 5, NO_SURFACE = 8 };
 
 void program_start(struct program *p)
 {
@@ -59,7 +59,7 @@ static void answer_clear(struct program *p, const uint8_t *r, uint8_t *answer)
  * answered 8." */
 static void answer_record(struct program *p, const uint8_t *r, uint8_t *answer)
 {
-    if (r[0] == CLEAR)
+    if (r[0] == CLEAR_OPERATION)
         answer_clear(p, r, answer);
     else if (p->W == 0)
         refuse(r, NO_SURFACE, answer);
@@ -93,7 +93,7 @@ void program_end(struct program *p, FILE *out)
         r = brute_list(p->W, p->H, p->weights, weights_len(p), p->table,
                        sizeof p->table, room, sizeof room);
     unsigned entries = (unsigned)(r >> 16 & 0xffff);
-    unsigned corners = (unsigned)(r >> 32);
+    unsigned corners = (unsigned)(r >> 32 & 0xffff);
     for (unsigned i = 0; i < entries; i++) {
         const uint8_t *e = room + RECORD * i;
         fprintf(out, "m %u %u %u %u %u\n", e[0], e[1], e[2], e[3],

@@ -4,7 +4,8 @@
  *
  *   generate stream KIND SEED N     N request records, binary
  *   generate cases SEED N           N call cases, one a line
- *   generate coverage SEED N        how often those cases give each code
+ *   generate coverage SEED N        how often those cases give each code; exit
+ *                                   status 1 where one is never given, or amiss
  */
 #include "brute.h"
 
@@ -447,7 +448,6 @@ static int make_stream(const char *kind)
 
 /* ======================= cases =========================================== */
 
-enum { CLEAR, CHECK, RUN, LIST, CALLS };
 enum { AREA = 12, CAP = 512 };
 
 struct lent { uint64_t len; uint8_t byte[CAP]; };
@@ -989,18 +989,17 @@ static void draw_case(struct call_case *c, unsigned long number)
     }
 }
 
+DEFINE_ON(brute)
+
 static uint64_t make_call(struct call_case *c)
 {
-    struct lent *ws = &c->weights, *t = &c->table;
-    switch (c->call) {
-    case CLEAR: return brute_clear(c->w, c->h, ws->byte, ws->len, t->byte, t->len);
-    case CHECK: return brute_check(c->w, c->h, ws->byte, ws->len, t->byte, t->len);
-    case LIST: return brute_list(c->w, c->h, ws->byte, ws->len, t->byte, t->len,
-                                 c->room.byte, c->room.len);
-    default: return brute_run(c->w, c->h, ws->byte, ws->len, t->byte, t->len,
-                              c->requests.byte, c->requests.len,
-                              c->answers.byte, c->answers.len);
+    struct lent *lent[BUFFERS] = { &c->weights, &c->table, &c->requests, &c->answers, &c->room };
+    struct loans l = { .w = c->w, .h = c->h };
+    for (unsigned i = 0; i < BUFFERS; i++) {
+        l.at[i] = lent[i]->byte;
+        l.len[i] = lent[i]->len;
     }
+    return on_brute(c->call, &l);
 }
 
 /* ---- a case as a line --------------------------------------------------------- */
@@ -1019,11 +1018,9 @@ static void print_weights(const struct call_case *c)
         printf("%s%d", i == 0 ? "" : " ", int_weight(c, i));
 }
 
-static const char *const call_names[CALLS] = { "clear", "check", "run", "list" };
-
 static void print_before(const struct call_case *c)
 {
-    printf("%s | %llu %llu", call_names[c->call], (unsigned long long)c->w,
+    printf("%s | %llu %llu", call_name(c->call), (unsigned long long)c->w,
            (unsigned long long)c->h);
     print_weights(c);
     print_bytes(&c->table);
@@ -1037,8 +1034,7 @@ static void print_before(const struct call_case *c)
 
 static void print_after(const struct call_case *c, uint64_t r)
 {
-    printf(" | %u %u %u", (unsigned)(r & 0xffff), (unsigned)(r >> 16 & 0xffff),
-           (unsigned)(r >> 32));
+    printf(" | %u %u %u", part_of(r, 0), part_of(r, 1), part_of(r, 2));
     if (c->call == CLEAR || c->call == RUN) {
         print_weights(c);
         print_bytes(&c->table);
@@ -1050,78 +1046,46 @@ static void print_after(const struct call_case *c, uint64_t r)
     printf("\n");
 }
 
-static int make_cases(unsigned long n)
+static void print_case(struct call_case *c)
 {
-    static struct call_case c;
-    next_fault = below(SURFACE_FAULTS);
-    for (unsigned long i = 0; i < n; i++) {
-        draw_case(&c, i);
-        print_before(&c);
-        print_after(&c, make_call(&c));
-    }
-    return 0;
+    print_before(c);
+    print_after(c, make_call(c));
 }
 
 /* ---- coverage -------------------------------------------------------------------- */
 
-static unsigned long call_seen[CALLS][8], request_seen[7][23], blocks_of[6];
+static unsigned long blocks_of[6];
 
-static void count_case(const struct call_case *c, uint64_t r)
+static void count_case(struct call_case *c)
 {
-    call_seen[c->call][r & 7]++;
-    if (c->call != RUN || r % 65536 != 0)
+    uint64_t r = make_call(c);
+    count_result(c->call, r);
+    if (c->call != RUN || part_of(r, 0) != 0)
         return;
     blocks_of[c->requests.len / 8]++;
-    for (uint64_t i = 0; i < c->answers.len; i += 8)
-        request_seen[c->answers.byte[i + 1]][c->answers.byte[i]]++;
+    count_answers(c->answers.byte, c->answers.len);
 }
 
-static unsigned missing(void)
+static int print_coverage(void)
 {
-    static const uint8_t may[CALLS][7] = {
-        { 0, 1, 2, 3, 0, 0, 0 }, { 0, 1, 2, 3, 6, 0, 0 },
-        { 0, 1, 2, 3, 4, 5, 6 }, { 0, 1, 2, 3, 6, 7, 0 } };
-    unsigned n = 0;
-    for (unsigned k = 0; k < CALLS; k++)
-        for (unsigned i = 0; i < 7; i++)
-            n += call_seen[k][may[k][i]] == 0;
-    for (unsigned i = 0; i < AIMS; i++)
-        n += request_seen[aims[i].op][aims[i].code] == 0;
-    return n;
-}
-
-static void print_coverage(void)
-{
-    for (unsigned k = 0; k < CALLS; k++) {
-        printf("%s:", call_names[k]);
-        for (unsigned i = 0; i < 8; i++)
-            if (call_seen[k][i] != 0)
-                printf(" code %u x%lu", i, call_seen[k][i]);
-        printf("\n");
-    }
-    for (unsigned op = 0; op < 7; op++) {
-        printf("operation %u:", op);
-        for (unsigned i = 0; i < 23; i++)
-            if (request_seen[op][i] != 0)
-                printf(" code %u x%lu", i, request_seen[op][i]);
-        printf("\n");
-    }
+    print_codes();
     printf("accepted blocks of 0..5 requests:");
     for (unsigned i = 0; i < 6; i++)
         printf(" %lu", blocks_of[i]);
-    printf("\nmissing %u\n", missing());
+    printf("\n");
+    unsigned n = codes_amiss();
+    printf("amiss %u\n", n);
+    return n == 0 ? 0 : 1;
 }
 
-static int make_coverage(unsigned long n)
+static void each_case(unsigned long n, void (*take)(struct call_case *))
 {
     static struct call_case c;
     next_fault = below(SURFACE_FAULTS);
     for (unsigned long i = 0; i < n; i++) {
         draw_case(&c, i);
-        count_case(&c, make_call(&c));
+        take(&c);
     }
-    print_coverage();
-    return missing() == 0 ? 0 : 1;
 }
 
 /* ---- the command line -------------------------------------------------------------- */
@@ -1145,9 +1109,9 @@ int main(int argc, char **argv)
     wanted = strtoul(argv[argc - 1], NULL, 10);
     if (stream)
         return make_stream(argv[2]);
-    if (strcmp(argv[1], "cases") == 0)
-        return make_cases(wanted);
-    if (strcmp(argv[1], "coverage") == 0)
-        return make_coverage(wanted);
-    return usage();
+    int coverage = strcmp(argv[1], "coverage") == 0;
+    if (!coverage && strcmp(argv[1], "cases") != 0)
+        return usage();
+    each_case(wanted, coverage ? count_case : print_case);
+    return coverage ? print_coverage() : 0;
 }

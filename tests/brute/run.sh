@@ -59,7 +59,7 @@ smoke() {
 mkdir -p "$build" || exit 1
 compile test_brute test_brute.c brute_program.c brute.c
 compile brute_freelist brute_freelist.c brute_program.c brute.c
-compile generate generate.c brute.c
+compile generate generate.c brute.c ../table.c
 
 example | "$build/brute_freelist" > "$build/out" || fail "program on its example"
 cmp "$build/out" "$here/expected_example.txt" || fail "the program's example"

@@ -12,10 +12,6 @@ void both_begin(void);
  * leaves in the case what the brute force left. Gives its result. */
 uint64_t both(struct call_case *c);
 
-/* The brute force alone, on the case's buffers. */
-uint64_t brute_on(struct call_case *c);
-
 void print_seen(void);
-int all_codes_seen(void);
 
 #endif

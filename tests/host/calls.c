@@ -15,7 +15,7 @@ unsigned entries_of(const struct call_case *c)
     const struct bytes *weights = &c->lent[WEIGHTS], *table = &c->lent[TABLE];
     uint64_t r = brute_list(c->w, c->h, weights->byte, weights->len, table->byte, table->len,
                             room, sizeof room);
-    return (unsigned)(r >> 16 & 0xffff);
+    return part_of(r, 1);
 }
 
 static void listed_in(struct call_case *c, uint64_t room)
@@ -150,9 +150,7 @@ static void edge(struct call_case *c, uint64_t w, uint64_t h, uint64_t weights_l
     c->call = CHECK;
     both(c);
     listed_in(c, rooms[below(4)]);
-#ifdef HAVE_RUN
     fixed_block(c);
-#endif
     cleared_over(c);
 }
 

@@ -9,32 +9,6 @@
 
 enum { MARGIN = 64, PAGE = 65536, AREA = (CAP + PAGE - 1) / PAGE * PAGE };
 
-const char *const call_names[CALLS] = { "clear", "check", "run", "list" };
-const char *const buffer_names[BUFFERS] = { "weights", "table", "requests", "answers", "room" };
-
-/* Which buffers each call is lent, and which of them for writing. */
-static const uint8_t lent_to[CALLS][BUFFERS] = {
-    [CLEAR] = { 1, 1, 0, 0, 0 }, [CHECK] = { 1, 1, 0, 0, 0 },
-    [RUN] = { 1, 1, 1, 1, 0 }, [LIST] = { 1, 1, 0, 0, 1 } };
-static const uint8_t written_by[CALLS][BUFFERS] = {
-    [CLEAR] = { 1, 1, 0, 0, 0 }, [CHECK] = { 0, 0, 0, 0, 0 },
-    [RUN] = { 1, 1, 0, 1, 0 }, [LIST] = { 0, 0, 0, 0, 1 } };
-
-uint64_t make_call(const struct four *f, unsigned call, uint64_t w, uint64_t h,
-                   uint8_t *const p[BUFFERS], const uint64_t len[BUFFERS])
-{
-    switch (call) {
-    case CLEAR: return f->clear(w, h, p[0], len[0], p[1], len[1]);
-    case CHECK: return f->check(w, h, p[0], len[0], p[1], len[1]);
-    case LIST: return f->list(w, h, p[0], len[0], p[1], len[1], p[ROOM], len[ROOM]);
-    default: return f->run(w, h, p[0], len[0], p[1], len[1], p[REQUESTS], len[REQUESTS],
-                           p[ANSWERS], len[ANSWERS]);
-    }
-}
-
-int is_lent(unsigned call, unsigned buffer) { return lent_to[call][buffer]; }
-int may_write(unsigned call, unsigned buffer) { return written_by[call][buffer]; }
-
 /* One loan: where it is, and the canary bytes on each side. */
 struct loan {
     unsigned way;

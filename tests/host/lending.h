@@ -3,10 +3,8 @@
 #ifndef LENDING_H
 #define LENDING_H
 
-#include <stdint.h>
+#include "../table.h"
 
-enum { CLEAR, CHECK, RUN, LIST, CALLS };
-enum { WEIGHTS, TABLE, REQUESTS, ANSWERS, ROOM, BUFFERS };
 enum { CAP = 8 * 64 * 64 + 64 };
 
 /* Where null is set, len is 0 and the pointer lent is the null pointer. */
@@ -21,24 +19,6 @@ struct call_case {
     uint64_t w, h;
     struct bytes lent[BUFFERS];
 };
-
-/* The four calls, of whoever has them. */
-struct four {
-    uint64_t (*clear)(uint64_t, uint64_t, uint8_t *, uint64_t, uint8_t *, uint64_t);
-    uint64_t (*check)(uint64_t, uint64_t, const uint8_t *, uint64_t, const uint8_t *, uint64_t);
-    uint64_t (*run)(uint64_t, uint64_t, uint8_t *, uint64_t, uint8_t *, uint64_t,
-                    const uint8_t *, uint64_t, uint8_t *, uint64_t);
-    uint64_t (*list)(uint64_t, uint64_t, const uint8_t *, uint64_t, const uint8_t *, uint64_t,
-                     uint8_t *, uint64_t);
-};
-
-uint64_t make_call(const struct four *f, unsigned call, uint64_t w, uint64_t h,
-                   uint8_t *const p[BUFFERS], const uint64_t len[BUFFERS]);
-
-extern const char *const call_names[CALLS], *const buffer_names[BUFFERS];
-
-int is_lent(unsigned call, unsigned buffer);
-int may_write(unsigned call, unsigned buffer);
 
 /* Between canary bytes, at any address; between two pages without access; or
  * exactly as long as asked for, for memcheck. */

@@ -5,19 +5,17 @@
 set -eu
 here=$(dirname "$0")
 . "$here/../need.sh"
-need gcc gcc libc6-dev
-need nm binutils
-need valgrind valgrind
+need_x86
 
 archive=${1:?the archive}
 build=${2:?the directory}
 scale=80
 seeds="1 2 3"
-flags="-std=c11 -O2 -Wall -Wextra -pedantic -Werror -DHAVE_RUN -I$here/../brute"
-brute="$here/../brute/brute.c"
+flags="-std=c11 -O2 -Wall -Wextra -pedantic -Werror -I$here/../brute"
+brute="$here/../brute/brute.c $here/../table.c"
 mkdir -p "$build"
 
-nm "$archive" | grep -q ' T freelist_run$' || { echo "run.sh: the archive has no freelist_run"; exit 1; }
+$nm "$archive" | grep -q ' T freelist_run$' || { echo "run.sh: the archive has no freelist_run"; exit 1; }
 
 [ "${3:-}" = long ] && scale=$((20 * scale))
 
@@ -25,21 +23,30 @@ sources=
 for part in compare all34 blocks both calls damage lending numbers surfaces; do
     sources="$sources $here/$part.c"
 done
-gcc $flags -o "$build/compare" $sources "$brute" "$archive"
-gcc $flags -o "$build/beside" "$here/beside.c" "$archive"
-gcc $flags -o "$build/wrong_inner_only" "$here/wrong_inner_only.c" "$brute" "$archive"
+$cc $flags -o "$build/compare" $sources $brute "$archive"
+for alone in beside put_back; do
+    $cc $flags -o "$build/$alone" "$here/$alone.c" "$archive"
+done
+$cc $flags -o "$build/wrong_inner_only" "$here/wrong_inner_only.c" "$here/surfaces.c" "$here/numbers.c" $brute "$archive"
 
 echo "-- each code given, and withheld just beside"
-"$build/beside"
+$start "$build/beside"
+echo "-- refused requests on pages that cannot be written"
+$start "$build/put_back"
 for seed in $seeds; do
     echo "-- compare, seed $seed, scale $scale"
-    "$build/compare" "$seed" "$scale"
+    $start "$build/compare" "$seed" "$scale"
 done
 echo "-- every way to lay modules on 3x4 and on 4x3"
-"$build/compare" all34
+$start "$build/compare" all34
 echo "-- a wrong build"
-"$build/wrong_inner_only"
+$start "$build/wrong_inner_only"
+if [ -n "$start" ]; then
+    echo "-- no sample under memcheck: valgrind runs programs of its machine's processor only"
+    exit 0
+fi
 echo "-- a sample under memcheck, seed 4"
+need valgrind valgrind
 valgrind -q --error-exitcode=1 "$build/compare" sample 4 3 >"$build/sample" ||
     { cat "$build/sample"; exit 1; }
 grep -E '^(seed|clear|check|run|list|host)' "$build/sample"

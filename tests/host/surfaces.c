@@ -42,7 +42,7 @@ void run_asked(struct call_case *c)
     uint64_t r = brute_run(c->w, c->h, weights->byte, weights->len, table->byte, table->len,
                            block, 8 * asked, answers, 8 * asked);
     asked = 0;
-    if ((r & 0xffff) == 0)
+    if (part_of(r, 0) == 0)
         return;
     fprintf(stderr, "host: a surface that should stand does not\n");
     exit(2);

@@ -4,9 +4,7 @@
 set -eu
 here=$(dirname "$0")
 . "$here/../need.sh"
-need gcc gcc libc6-dev
-need g++ g++
-need nm binutils
+need_x86
 need pkg-config pkgconf
 
 build=${1:?the directory}
@@ -21,21 +19,21 @@ fail() {
     exit 1
 }
 
-calls=$(nm "$archive" | awk '$2 == "T" { print $3 }' | sort | tr '\n' ' ')
+calls=$($nm "$archive" | awk '$2 == "T" { print $3 }' | sort | tr '\n' ' ')
 [ "$calls" = "freelist_check freelist_clear freelist_list freelist_run " ] || fail "the archive gives: $calls"
-wanted=$(nm -u "$archive" | awk '$1 == "U" && $2 != "memcpy" && $2 != "memset" { print $2 }')
+wanted=$($nm -u "$archive" | awk '$1 == "U" && $2 != "memcpy" && $2 != "memset" { print $2 }')
 [ -z "$wanted" ] || fail "the archive wants: $wanted"
-size "$archive" | awk 'NR > 1 && $2 + $3 != 0 { bad = 1 } END { exit bad }' || fail "the archive has .data or .bss"
+$size "$archive" | awk 'NR > 1 && $2 + $3 != 0 { bad = 1 } END { exit bad }' || fail "the archive has .data or .bss"
 
-echo '#include "freelist.h"' >"$build/alone.c"
-gcc -std=c11 $strict -fsyntax-only -I"$build/prefix/include" "$build/alone.c" || fail "the header in C11"
-cp "$build/alone.c" "$build/alone.cc"
-g++ -std=c++11 $strict -fsyntax-only -I"$build/prefix/include" "$build/alone.cc" || fail "the header in C++"
+for compiler in "$cc -std=c11" "$cxx -std=c++11 -x c++"; do
+    $compiler $strict -I"$build/prefix/include" -o "$build/parts" "$here/parts.c" || fail "the header: $compiler"
+    $start "$build/parts" || fail "a result's parts: $compiler"
+done
 
 flags=$(PKG_CONFIG_PATH="$build/prefix/lib/pkgconfig" pkg-config --cflags --libs freelist)
-gcc -std=c11 $strict -o "$build/triggers" "$here/../../examples/triggers.c" $flags
-"$build/triggers" >"$build/triggers.out"
+$cc -std=c11 $strict -o "$build/triggers" "$here/../../examples/triggers.c" $flags
+$start "$build/triggers" >"$build/triggers.out"
 cmp "$build/triggers.out" "$here/../../examples/triggers.txt" || fail "the example host"
-gcc -std=c11 $strict -o "$build/stack" "$here/stack.c" $flags
-"$build/stack" || fail "the stack"
+$cc -std=c11 $strict -o "$build/stack" "$here/stack.c" $flags
+$start "$build/stack" || fail "the stack"
 echo "the library: archive, header, pkg-config, example host, stack: right"

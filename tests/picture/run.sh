@@ -7,6 +7,7 @@ root=$here/../..
 . "$here/../need.sh"
 need gcc gcc libc6-dev
 need awk gawk
+need_emulator
 
 program=${1:?the program}
 work=${2:?the directory}
@@ -49,7 +50,7 @@ count_drawn() {
 # What the program leaves after the stream in "$work/in", drawn in both forms.
 draws() {
     drawn=$((drawn + 1))
-    "$program" <"$work/in" >"$work/out" || fail "$1: the program"
+    $start "$program" <"$work/in" >"$work/out" || fail "$1: the program"
     picture checked text 0 "$work/in" "$work/out" "$1"
     picture checked svg 0 "$work/in" "$work/out" "$1"
     awk -f "$here/well_formed.awk" "$work/drawing.svg" || fail "$1: not well formed"
@@ -72,11 +73,11 @@ edited() {
 mkdir -p "$work" || exit 1
 gcc $flags -o "$work/picture" "$root"/tools/picture/*.c || exit 1
 gcc $flags -g -fsanitize=address,undefined -fno-sanitize-recover=all -o "$work/checked" "$root"/tools/picture/*.c || exit 1
-gcc $flags -o "$work/generate" "$root/tests/brute/generate.c" "$root/tests/brute/brute.c" || exit 1
+gcc $flags -o "$work/generate" "$root/tests/brute/generate.c" "$root/tests/brute/brute.c" "$root/tests/table.c" || exit 1
 
 # The example and the stored drawings.
 sh "$root/tools/picture/bytes.sh" <"$root/tools/picture/example.hex" >"$work/example"
-"$program" <"$work/example" >"$work/example.out" || fail "the program on the example"
+$start "$program" <"$work/example" >"$work/example.out" || fail "the program on the example"
 for tool in picture checked; do
     picture $tool text 0 "$work/example" "$work/example.out" "the example"
     cmp "$work/drawing.text" "$here/expected.txt" || fail "the example as text"

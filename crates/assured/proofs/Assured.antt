@@ -1,67 +1,64 @@
--- THE THREE DEMANDS ON THE EXPORTED CALLS: the file to open first. Each statement stands under the sentence of document 00 that it answers. Its
--- hypotheses are the contracts that the four exported functions carry in their source (calls/specs/Promise): HostClearedBy, r ≡ hostCheck .., HostRanBy,
--- HostListedBy. W and H are the sizes, w the bytes of the weights, t those of the table, q those of a block, room the bytes lent for answers or list, r
--- the number returned; w′, t′, a′, room′ are what the buffers hold afterwards. The proofs stand in the files that the `use` lines name. No axiom is used.
-use mathlib.Core.Path.{_≡_, refl}
-use mathlib.Core.Bool.{true, false, not, _&&_}
+-- THE THREE DEMANDS ON THE EXPORTED CALLS: the file to open first. Each statement stands under the sentence of document 00 that it answers. Its hypotheses are the contracts that the four
+-- exported functions carry in their source: HostClearedBy, r ≡ hostCheck .., HostRanBy, HostListedBy (rules/specs/Host). W and H are the sizes, l is what the host lends of a surface, the
+-- bytes of its weights and its table; r is the number returned; a prime marks what a buffer holds afterwards. A RunCall c is a call of run: what it was lent, returned and left, and its
+-- contract (demands/specs/Chain). The proofs stand in the files that the `use` lines name. No axiom is used.
+use mathlib.Core.Path.{_≡_}
+use mathlib.Core.Bool.{true, false, not, cond, _&&_}
 use mathlib.Core.Logic.{_↔_}
-use mathlib.Core.List.{List, [], _++_}
+use mathlib.Core.List.{List, _∷_, _++_}
 use mathlib.Core.Option.{some}
 use Prim.Native.Nat.{ℕ, suc, _+_, _*_, _≤_, _<_}
+use lib.Dec.{eqb}
 use lib.ListN.{length, getD}
 use Rattle.rules.specs.Tests.{all}
-use Rattle.rules.specs.Surface.{Standing, rect, covers, rectOf, recordOf, freeRecord, withRecord, occupied, cell, usedSlots}
-use Rattle.rules.specs.Empties.{Empty, Earlier}
+use Rattle.rules.specs.Surface.{Standing, rect, covers, slots, rectOf, recordOf, freeRecord, withRecord, occupied, cell, fresh, usedSlots}
+use Rattle.rules.specs.Empties.{Empty}
+use Rattle.rules.specs.Judging.{FirstThat}
 use Rattle.rules.specs.Requests.{idLow, idHigh, idAsked, ruleOf, wide, high, byRule, isPlace, isRemove, isPin, isExchange, makesNew, idPlaced, slotOf, lowestFree, pinned, ground, rulePlace, judging, stepOf, answerOf}
 use Rattle.rules.specs.Blocks.{requests, request}
-use Rattle.rules.specs.Calls.{badBlock, clearLines, checkLines, runLines, listLines}
-use Rattle.rules.specs.Host.{badBytes, weightsOf, bytesOf, hostCheck}
-use Rattle.rules.specs.declared.Rect.{Rect}
-use Rattle.meaning.proofs.Lowest.{Lowest}
-use Rattle.meaning.proofs.Theorems as T
+use Rattle.rules.specs.Calls.{badBlock, clearLines, checkLines, runLines, listLines, resultOf, codeOfResult, firstOfResult, secondOfResult}
+use Rattle.rules.specs.Host.{LentSurface, lent, weightsIn, bytesOf, badBytes, hostCheck, hostRun, HostClearedBy, HostListedBy}
+use Rattle.meaning.proofs.Counts.{used-few, accepted-few}
 use Rattle.demands.specs.Sound.{Sound, SlotForIt}
-use Rattle.demands.specs.History.{moduleAt, codeIn, placeIn, history, historyWeight}
-use Rattle.demands.specs.Told.{HasModule, Told}
-use Rattle.demands.specs.Sessions.{HostSession, joined, codeOfResult, countOfResult}
-use Rattle.demands.proofs.HostRuns as B
-use Rattle.demands.proofs.Demands as D
-use Rattle.calls.specs.Promise.{HostClearedBy, HostRanBy, HostListedBy}
-use Rattle.assured.specs.Chain.{Chain, ChainOf, OneFramed, LowestFree, SlotOfId, HoldsList, upTo}
-use Rattle.assured.proofs.Chains as C
-use Rattle.assured.proofs.Refused as R
-use Rattle.assured.proofs.Answered as A
-use Rattle.codec.proofs.Laws as X
-use Rattle.assured.proofs.Bytes as Y
-use Rattle.assured.proofs.Lists as L
+use Rattle.demands.specs.History.{codeIn, placeIn, history, historyWeight}
+use Rattle.demands.specs.Told.{Told, Placed, LowestFree, SlotOfId}
+use Rattle.demands.specs.Frame.{OneFramed, BytesFramed}
+use Rattle.demands.specs.Listed.{HoldsList}
+use Rattle.demands.specs.Chain.{RunCall, NotRefused, asked, answered, upTo, joined, ones, Chain, ChainOver}
+use Rattle.demands.specs.Chain.Chain.{cleared}
+use Rattle.demands.proofs.Calls as K
+use Rattle.demands.proofs.Refusals as R
+use Rattle.demands.proofs.Answered as A
+use Rattle.demands.proofs.Chains as C
+use Rattle.demands.proofs.Single as S
+use Rattle.demands.proofs.Lists as L
 
--- ==== DEMAND 1: "Bad sizes, lengths, records or a surface that contradicts itself are refused by number, in a fixed order, and a refusal changes neither
--- the surface nor the table." (That each call ends, and reads and writes only what it was lent, is what the prover demands of every function.)
+-- ==== DEMAND 1: "Bad sizes, lengths, records or a surface that contradicts itself are refused by number, in a fixed order, and a refusal changes neither the surface nor the table."
+-- (That each call ends, and reads and writes only what it was lent, is what the prover demands of every function.)
 
--- ---- "are refused by number, in a fixed order": the code is the lowest whose condition applies, 0 where none does
+-- ---- the code in a result is that of the first line that applies, 0 where none does. That there is one such code, that a code names its line, is 0 exactly when none applies, and is the lowest: meaning/proofs/Theorems,
+-- `first-one`, `given-exactly`, `done-exactly`, `lowest-given`, with `clear-numbers` and its like
 
-pub clear-lowest : (W H : ℕ) (w t : List ℕ) {r : ℕ} {w′ t′ : List ℕ} → HostClearedBy W H w t r w′ t′ → Lowest (clearLines (badBytes W H w) W H t) (codeOfResult r)
-clear-lowest = R.clear-lowest
+pub clear-first : (W H : ℕ) (l : LentSurface) {r : ℕ} {l′ : LentSurface} → HostClearedBy W H l r l′ → FirstThat (clearLines (badBytes W H l) W H (l .table)) (codeOfResult r)
+clear-first = K.clear-first
 
-pub check-lowest : (W H : ℕ) (w t : List ℕ) {r : ℕ} → r ≡ hostCheck W H w t → Lowest (checkLines (badBytes W H w) W H (weightsOf w) t) (codeOfResult r)
-check-lowest = R.check-lowest
+pub check-first : (W H : ℕ) (l : LentSurface) {r : ℕ} → r ≡ hostCheck W H l → FirstThat (checkLines (badBytes W H l) W H (weightsIn l) (l .table)) (codeOfResult r)
+check-first = K.check-first
 
-pub run-lowest : (W H : ℕ) (w t q room : List ℕ) {r : ℕ} {w′ t′ a′ : List ℕ} → HostRanBy W H w t q room r w′ t′ a′ →
-    Lowest (runLines (badBytes W H w) W H (weightsOf w) t q room) (codeOfResult r)
-run-lowest = R.run-lowest
+pub run-first : (W H : ℕ) (c : RunCall W H) → FirstThat (runLines (badBytes W H (c .lent)) W H (weightsIn (c .lent)) (c .lent .table) (c .block) (c .room)) (codeOfResult (c .result))
+run-first W H c = K.run-first W H (c .lent) (c .block) (c .room) (c .contract)
 
-pub list-lowest : (W H : ℕ) (w t room : List ℕ) {r : ℕ} {room′ : List ℕ} → HostListedBy W H w t room r room′ →
-    Lowest (listLines (badBytes W H w) W H (weightsOf w) t room) (codeOfResult r)
-list-lowest = R.list-lowest
+pub list-first : (W H : ℕ) (l : LentSurface) (room : List ℕ) {r : ℕ} {room′ : List ℕ} → HostListedBy W H l room r room′ →
+    FirstThat (listLines (badBytes W H l) W H (weightsIn l) (l .table) room) (codeOfResult r)
+list-first = K.list-first
 
 -- a request's code, in the answer that the call has written
-pub request-lowest : (W H : ℕ) (w t q room : List ℕ) {r : ℕ} {w′ t′ a′ : List ℕ} → HostRanBy W H w t q room r w′ t′ a′ → codeOfResult r ≡ 0 → (k : ℕ) → k < requests q →
-    Lowest (judging W H (upTo W H w t q k .table) (request q k)) (codeIn (request a′ k))
-request-lowest = A.answer-lowest
+pub request-first : (W H : ℕ) (c : RunCall W H) → NotRefused c → (k : ℕ) → k < requests (c .block) → FirstThat (judging W H (upTo c k .table) (asked c k)) (codeIn (answered c k))
+request-first W H = A.answer-first
 
 -- 22, "the place that the rule chose has an occupied cell", is never given: no answer begins with it
-pub request-never-22 : (W H : ℕ) (w t q room : List ℕ) {r : ℕ} {w′ t′ a′ : List ℕ} → HostRanBy W H w t q room r w′ t′ a′ → codeOfResult r ≡ 0 → (k : ℕ) → k < requests q →
-    getD a′ (8 * k) 0 ≡ 22 → ⊥
-request-never-22 = A.answer-never-22
+pub request-never-22 : (W H : ℕ) (c : RunCall W H) → NotRefused c → (k : ℕ) → k < requests (c .block) → getD (c .answers) (8 * k) 0 ≡ 22 → ⊥
+request-never-22 W H = A.answer-never-22
 
 -- "The answer is 8 bytes, ..: code, operation and id as they came": the code of answer k is byte 8·k
 pub code-byte : (a : List ℕ) (k : ℕ) → codeIn (request a k) ≡ getD a (8 * k) 0
@@ -69,187 +66,217 @@ code-byte = A.code-byte
 
 -- ---- "a refusal changes neither the surface nor the table": a call; and its counts are 0
 
-pub clear-refused : (W H : ℕ) (w t : List ℕ) {r : ℕ} {w′ t′ : List ℕ} → HostClearedBy W H w t r w′ t′ → (codeOfResult r ≡ 0 → ⊥) → (w′ ≡ w) × (t′ ≡ t) × (r < 65536)
-clear-refused = R.clear-writes
+pub clear-refused : (W H : ℕ) (l : LentSurface) {r : ℕ} {l′ : LentSurface} → HostClearedBy W H l r l′ → (codeOfResult r ≡ 0 → ⊥) → (l′ ≡ l) × (r < 65536)
+clear-refused = K.clear-refused
 
 -- (check is lent nothing for writing)
-pub check-refused : (W H : ℕ) (w t : List ℕ) {r : ℕ} → r ≡ hostCheck W H w t → (codeOfResult r ≡ 0 → ⊥) → r < 65536
-check-refused = R.check-counts-none
+pub check-refused : (W H : ℕ) (l : LentSurface) {r : ℕ} → r ≡ hostCheck W H l → (codeOfResult r ≡ 0 → ⊥) → r < 65536
+check-refused = K.check-refused
 
-pub run-refused : (W H : ℕ) (w t q room : List ℕ) {r : ℕ} {w′ t′ a′ : List ℕ} → HostRanBy W H w t q room r w′ t′ a′ → (codeOfResult r ≡ 0 → ⊥) →
-    (w′ ≡ w) × (t′ ≡ t) × (a′ ≡ room) × (r < 65536)
-run-refused = R.run-writes
+pub run-refused : (W H : ℕ) (c : RunCall W H) → (NotRefused c → ⊥) → (c .left ≡ c .lent) × (c .answers ≡ c .room) × (c .result < 65536)
+run-refused W H c = K.run-refused W H (c .lent) (c .block) (c .room) (c .contract)
 
-pub list-refused : (W H : ℕ) (w t room : List ℕ) {r : ℕ} {room′ : List ℕ} → HostListedBy W H w t room r room′ → (codeOfResult r ≡ 0 → ⊥) → (room′ ≡ room) × (r < 65536)
-list-refused = R.list-writes
+pub list-refused : (W H : ℕ) (l : LentSurface) (room : List ℕ) {r : ℕ} {room′ : List ℕ} → HostListedBy W H l room r room′ → (codeOfResult r ≡ 0 → ⊥) → (room′ ≡ room) × (r < 65536)
+list-refused = K.list-refused
 
 -- a request: the one behind it finds the surface as it was
-pub request-refused : (W H : ℕ) (w t q room : List ℕ) {r : ℕ} {w′ t′ a′ : List ℕ} → HostRanBy W H w t q room r w′ t′ a′ → codeOfResult r ≡ 0 → (k : ℕ) → k < requests q →
-    (codeIn (request a′ k) ≡ 0 → ⊥) → (upTo W H w t q (suc k) .weights ≡ upTo W H w t q k .weights) × (upTo W H w t q (suc k) .table ≡ upTo W H w t q k .table)
-request-refused = A.answer-refused
+pub request-refused : (W H : ℕ) (c : RunCall W H) → NotRefused c → (k : ℕ) → k < requests (c .block) → (codeIn (answered c k) ≡ 0 → ⊥) →
+    (upTo c (suc k) .weights ≡ upTo c k .weights) × (upTo c (suc k) .table ≡ upTo c k .table)
+request-refused W H = A.answer-refused
 
--- and where every request of a block is refused, no byte of weights and table has changed; (the hypothesis says that w are bytes)
-pub requests-refused : (W H : ℕ) (w t q room : List ℕ) {r : ℕ} {w′ t′ a′ : List ℕ} → HostRanBy W H w t q room r w′ t′ a′ → codeOfResult r ≡ 0 →
-    ((k : ℕ) → getD w k 0 < 256) → countOfResult r ≡ 0 → (w′ ≡ w) × (t′ ≡ t)
-requests-refused = Y.none-changes
+-- and where every request of a block is refused, no byte of weights and table has changed; (the hypothesis says that the weights' bytes are bytes)
+pub requests-refused : (W H : ℕ) (c : RunCall W H) → NotRefused c → ((k : ℕ) → getD (c .lent .weights) k 0 < 256) → firstOfResult (c .result) ≡ 0 → c .left ≡ c .lent
+requests-refused W H = S.none-changes
 
-pub bytes-back : (W H : ℕ) (w : List ℕ) → ((k : ℕ) → getD w k 0 < 256) → length w ≡ 2 * (W * H) → bytesOf (weightsOf w) ≡ w
-bytes-back W H w bytes = X.bytes-back w bytes (W * H)
+-- ---- the counts of a call that is done, each in its 16 bits
+
+pub check-counts : (W H : ℕ) (l : LentSurface) {r : ℕ} → r ≡ hostCheck W H l → codeOfResult r ≡ 0 → (firstOfResult r ≡ usedSlots (l .table)) × (secondOfResult r ≡ 0)
+check-counts = K.check-counts
+
+pub check-result : (W H : ℕ) (l : LentSurface) {r : ℕ} → r ≡ hostCheck W H l → codeOfResult r ≡ 0 → r ≡ resultOf 0 (usedSlots (l .table)) 0
+check-result = K.check-result
+
+pub run-result : (W H : ℕ) (c : RunCall W H) → NotRefused c → c .result ≡ resultOf 0 (upTo c (requests (c .block)) .accepted) 0
+run-result W H c = K.run-result W H (c .lent) (c .block) (c .room) (c .contract)
+
+pub used-at-most : (t : List ℕ) → usedSlots t ≤ slots t
+used-at-most = used-few
+
+pub run-counts : (W H : ℕ) (c : RunCall W H) → NotRefused c → (firstOfResult (c .result) ≡ upTo c (requests (c .block)) .accepted) × (secondOfResult (c .result) ≡ 0)
+run-counts W H c = K.run-counts W H (c .lent) (c .block) (c .room) (c .contract)
+
+pub accepted-at-most : (W H : ℕ) (c : RunCall W H) (k : ℕ) → upTo c k .accepted ≤ k
+accepted-at-most W H c = accepted-few W H (c .block) (weightsIn (c .lent)) (c .lent .table)
 
 -- ==== DEMAND 2: "The list holds every maximal empty rectangle, as Handa and Vemuri define it, once each and in the stated order, with nothing else in it."
 
 -- the room begins with the records of such a list, its later bytes are as they were, and the two counts are the list's length and the corners
-pub list-holds : (W H : ℕ) (w t room : List ℕ) {r : ℕ} {room′ : List ℕ} → HostListedBy W H w t room r room′ → codeOfResult r ≡ 0 → HoldsList W H w t room r room′
+pub list-holds : (W H : ℕ) (l : LentSurface) (room : List ℕ) {r : ℕ} {room′ : List ℕ} → HostListedBy W H l room r room′ → codeOfResult r ≡ 0 → HoldsList W H l room r room′
 list-holds = L.holds-list
 
--- what is earlier is another: so each stands there once
-pub list-once : (a b : Rect) → Earlier a b → a ≡ b → ⊥
-list-once = T.list-once
+-- ---- "A sound request by rule, with a free slot where it needs one, is refused exactly when no position on the surface has all its cells empty (for an exchange, the old module taken away)":
+-- request k of a block, refused with any code
 
--- check counts the used slots
-pub check-counts : (W H : ℕ) (w t : List ℕ) {r : ℕ} → r ≡ hostCheck W H w t → codeOfResult r ≡ 0 → countOfResult r ≡ usedSlots t
-check-counts = R.check-counts
-
--- ---- "A sound request by rule, with a free slot where it needs one, is refused exactly when no position on the surface has all its cells empty (for an
--- exchange, the old module taken away)": request k of a block, refused with any code
-
-pub request-refused-exactly : (W H : ℕ) (w t q room : List ℕ) {r : ℕ} {w′ t′ a′ : List ℕ} → HostRanBy W H w t q room r w′ t′ a′ → codeOfResult r ≡ 0 → (k : ℕ) → k < requests q →
-    let u = upTo W H w t q k .table in
-    let p = request q k in
-    Sound u p → byRule p ≡ true → SlotForIt u p →
-    (codeIn (request a′ k) ≡ 0 → ⊥) ↔ ((x y : ℕ) → Empty (occupied (ground u p)) W H (rect x y (wide p) (high p)) → ⊥)
-request-refused-exactly = A.answer-refused-exactly
+pub request-refused-exactly : (W H : ℕ) (c : RunCall W H) → NotRefused c → (k : ℕ) → k < requests (c .block) →
+    let t = upTo c k .table in
+    let q = asked c k in
+    Sound t q → byRule q ≡ true → SlotForIt t q →
+    (codeIn (answered c k) ≡ 0 → ⊥) ↔ ((x y : ℕ) → Empty (occupied (ground t q)) W H (rect x y (wide q) (high q)) → ⊥)
+request-refused-exactly W H = A.answer-refused-exactly
 
 -- a place is judged on the surface as it stands; an exchange's without the cells of the old module
 pub judged-as-it-stands : (t q : List ℕ) → isPlace q ≡ true → ground t q ≡ t
-judged-as-it-stands = D.judged-as-it-stands
+judged-as-it-stands = R.ground-place
 
-pub judged-without-the-old : (W H : ℕ) (w t q room : List ℕ) {r : ℕ} {w′ t′ a′ : List ℕ} → HostRanBy W H w t q room r w′ t′ a′ → codeOfResult r ≡ 0 → (k : ℕ) → k < requests q →
-    let u = upTo W H w t q k .table in
-    let p = request q k in
-    Sound u p → isExchange p ≡ true → (x y : ℕ) → occupied (ground u p) x y ≡ (occupied u x y && not (covers (rectOf u (slotOf u (idAsked p))) x y))
-judged-without-the-old = A.answer-ground
+pub judged-without-the-old : (W H : ℕ) (c : RunCall W H) → NotRefused c → (k : ℕ) → k < requests (c .block) →
+    let t = upTo c k .table in
+    let q = asked c k in
+    Sound t q → isExchange q ≡ true → (x y : ℕ) → occupied (ground t q) x y ≡ (occupied t x y && not (covers (rectOf t (slotOf t (idAsked q))) x y))
+judged-without-the-old W H = A.answer-ground
 
 -- ---- "an accepted module stands where its rule or pin says": where the answer says, and the table has it there
 
-pub stands-by-rule : (W H : ℕ) (w t q room : List ℕ) {r : ℕ} {w′ t′ a′ : List ℕ} → HostRanBy W H w t q room r w′ t′ a′ → codeOfResult r ≡ 0 → (k : ℕ) → k < requests q →
-    codeIn (request a′ k) ≡ 0 →
-    let p = request q k in
-    byRule p ≡ true → rulePlace (occupied (ground (upTo W H w t q k .table) p)) W H (ruleOf p) (wide p) (high p) ≡ some (placeIn (request a′ k))
-stands-by-rule = A.answer-by-rule
+pub stands-by-rule : (W H : ℕ) (c : RunCall W H) → NotRefused c → (k : ℕ) → k < requests (c .block) → codeIn (answered c k) ≡ 0 →
+    let q = asked c k in
+    byRule q ≡ true → rulePlace (occupied (ground (upTo c k .table) q)) W H (ruleOf q) (wide q) (high q) ≡ some (placeIn (answered c k))
+stands-by-rule W H c e k l ok = A.answer-stands-as c e k l ok .rule
 
-pub stands-by-pin : (W H : ℕ) (w t q room : List ℕ) {r : ℕ} {w′ t′ a′ : List ℕ} → HostRanBy W H w t q room r w′ t′ a′ → codeOfResult r ≡ 0 → (k : ℕ) → k < requests q →
-    codeIn (request a′ k) ≡ 0 → isPin (request q k) ≡ true → placeIn (request a′ k) ≡ pinned (request q k)
-stands-by-pin = A.answer-by-pin
+pub stands-by-pin : (W H : ℕ) (c : RunCall W H) → NotRefused c → (k : ℕ) → k < requests (c .block) → codeIn (answered c k) ≡ 0 → isPin (asked c k) ≡ true → placeIn (answered c k) ≡ pinned (asked c k)
+stands-by-pin W H c e k l ok = A.answer-stands-as c e k l ok .pin
 
-pub stands-there : (W H : ℕ) (w t q room : List ℕ) {r : ℕ} {w′ t′ a′ : List ℕ} → HostRanBy W H w t q room r w′ t′ a′ → codeOfResult r ≡ 0 → (k : ℕ) → k < requests q →
-    codeIn (request a′ k) ≡ 0 → isRemove (request q k) ≡ false → HasModule (upTo W H w t q (suc k) .table) (moduleAt (idAsked (request q k)) (placeIn (request a′ k)))
-stands-there = A.answer-there
+pub stands-there : (W H : ℕ) (c : RunCall W H) → NotRefused c → (k : ℕ) → k < requests (c .block) → codeIn (answered c k) ≡ 0 → isRemove (asked c k) ≡ false →
+    Placed (upTo c (suc k) .table) (idAsked (asked c k)) (placeIn (answered c k))
+stands-there W H = A.answer-there
 
-pub removed-gone : (W H : ℕ) (w t q room : List ℕ) {r : ℕ} {w′ t′ a′ : List ℕ} → HostRanBy W H w t q room r w′ t′ a′ → codeOfResult r ≡ 0 → (k : ℕ) → k < requests q →
-    codeIn (request a′ k) ≡ 0 → isRemove (request q k) ≡ true →
-    HasModule (upTo W H w t q k .table) (moduleAt (idAsked (request q k)) (placeIn (request a′ k))) × (idPlaced (upTo W H w t q (suc k) .table) (idAsked (request q k)) ≡ false)
-removed-gone = A.answer-gone
+pub removed-gone : (W H : ℕ) (c : RunCall W H) → NotRefused c → (k : ℕ) → k < requests (c .block) → codeIn (answered c k) ≡ 0 → isRemove (asked c k) ≡ true →
+    Placed (upTo c k .table) (idAsked (asked c k)) (placeIn (answered c k)) × (idPlaced (upTo c (suc k) .table) (idAsked (asked c k)) ≡ false)
+removed-gone W H = A.answer-gone
 
--- ---- "Place and pin use the lowest free slot, so a freed slot is used again. Exchange .. keeps its slot": the table is the one before the request with one
--- record written, in the slot that was the lowest free one, or in the slot of the id; a remove frees that one
+-- ---- "Place and pin use the lowest free slot, so a freed slot is used again. Exchange .. keeps its slot": the table is the one before the request with one record written, in the slot that was
+-- the lowest free one, or in the slot of the id; a remove frees that one
 
-pub lowest-slot : (W H : ℕ) (w t q room : List ℕ) {r : ℕ} {w′ t′ a′ : List ℕ} → HostRanBy W H w t q room r w′ t′ a′ → codeOfResult r ≡ 0 → (k : ℕ) → k < requests q →
-    codeIn (request a′ k) ≡ 0 → makesNew (request q k) ≡ true →
-    let p = request q k in
-    let u = upTo W H w t q k .table in
-    LowestFree u (lowestFree u) × (upTo W H w t q (suc k) .table ≡ withRecord u (lowestFree u) (recordOf (idLow p) (idHigh p) (placeIn (request a′ k))))
-lowest-slot = A.answer-new-slot
+pub lowest-slot : (W H : ℕ) (c : RunCall W H) → NotRefused c → (k : ℕ) → k < requests (c .block) → codeIn (answered c k) ≡ 0 → makesNew (asked c k) ≡ true →
+    let t = upTo c k .table in
+    let q = asked c k in
+    LowestFree t (lowestFree t) × (upTo c (suc k) .table ≡ withRecord t (lowestFree t) (recordOf (idLow q) (idHigh q) (placeIn (answered c k))))
+lowest-slot W H = A.answer-new-slot
 
-pub exchange-slot : (W H : ℕ) (w t q room : List ℕ) {r : ℕ} {w′ t′ a′ : List ℕ} → HostRanBy W H w t q room r w′ t′ a′ → codeOfResult r ≡ 0 → (k : ℕ) → k < requests q →
-    codeIn (request a′ k) ≡ 0 → isExchange (request q k) ≡ true →
-    let p = request q k in
-    let u = upTo W H w t q k .table in
-    let i = slotOf u (idAsked p) in
-    SlotOfId u i (idAsked p) × (upTo W H w t q (suc k) .table ≡ withRecord u i (recordOf (idLow p) (idHigh p) (placeIn (request a′ k))))
-exchange-slot = A.answer-exchange-slot
+pub exchange-slot : (W H : ℕ) (c : RunCall W H) → NotRefused c → (k : ℕ) → k < requests (c .block) → codeIn (answered c k) ≡ 0 → isExchange (asked c k) ≡ true →
+    let t = upTo c k .table in
+    let q = asked c k in
+    let i = slotOf t (idAsked q) in
+    SlotOfId t i (idAsked q) × (upTo c (suc k) .table ≡ withRecord t i (recordOf (idLow q) (idHigh q) (placeIn (answered c k))))
+exchange-slot W H = A.answer-exchange-slot
 
-pub remove-slot : (W H : ℕ) (w t q room : List ℕ) {r : ℕ} {w′ t′ a′ : List ℕ} → HostRanBy W H w t q room r w′ t′ a′ → codeOfResult r ≡ 0 → (k : ℕ) → k < requests q →
-    codeIn (request a′ k) ≡ 0 → isRemove (request q k) ≡ true →
-    let u = upTo W H w t q k .table in
-    let i = slotOf u (idAsked (request q k)) in
-    SlotOfId u i (idAsked (request q k)) × (upTo W H w t q (suc k) .table ≡ withRecord u i freeRecord)
-remove-slot = A.answer-freed-slot
+pub remove-slot : (W H : ℕ) (c : RunCall W H) → NotRefused c → (k : ℕ) → k < requests (c .block) → codeIn (answered c k) ≡ 0 → isRemove (asked c k) ≡ true →
+    let t = upTo c k .table in
+    let i = slotOf t (idAsked (asked c k)) in
+    SlotOfId t i (idAsked (asked c k)) × (upTo c (suc k) .table ≡ withRecord t i freeRecord)
+remove-slot W H = A.answer-freed-slot
 
--- ==== DEMAND 3: "Take a cleared surface whose sizes stay and whose cells and table nobody else writes to, and any sequence of requests, accepted and
--- refused, cut anyhow into blocks that are not themselves refused." That is a Chain: it begins with clear's contract, and goes on with run's.
+-- ==== DEMAND 3: "Take a cleared surface whose sizes stay and whose cells and table nobody else writes to, and any sequence of requests, accepted and refused, cut anyhow into blocks that are not
+-- themselves refused." That is a Chain: it begins with clear's contract on l₀, and goes on with run's, a call for each block of qs. l, a and n are what is left, answered and counted.
 
-pub chain-session : (W H n : ℕ) {w t b a : List ℕ} {c : ℕ} → Chain W H n w t b a c → HostSession W H n w t b a c
-chain-session = C.chained
+-- every cut of requests into blocks of good length, after any clear that is done, is that of a chain: what follows is about all of them
+pub host-every-cut : (W H : ℕ) (l₀ : LentSurface) {r : ℕ} {l : LentSurface} → HostClearedBy W H l₀ r l → codeOfResult r ≡ 0 →
+    (qs : List (List ℕ)) → all (λ q. not (badBlock (length q))) qs ≡ true → ChainOver W H l₀ qs
+host-every-cut = C.every-cut
 
 -- its surface stands; a further block is refused for its own length or that of its answers alone
-pub chain-stands : (W H n : ℕ) {w t b a : List ℕ} {c : ℕ} → Chain W H n w t b a c → Standing W H (weightsOf w) t
+pub chain-stands : (W H : ℕ) (l₀ : LentSurface) {qs : List (List ℕ)} {l : LentSurface} {a : List ℕ} {n : ℕ} → Chain W H l₀ qs l a n → Standing W H (weightsIn l) (l .table)
 chain-stands = C.chain-stands
 
-pub chain-runs : (W H n : ℕ) {w t b a : List ℕ} {c : ℕ} → Chain W H n w t b a c → (q room : List ℕ) {r : ℕ} {w′ t′ a′ : List ℕ} → HostRanBy W H w t q room r w′ t′ a′ →
-    badBlock (length q) ≡ false → length room ≡ length q → codeOfResult r ≡ 0
+pub chain-runs : (W H : ℕ) (l₀ : LentSurface) {qs : List (List ℕ)} {a : List ℕ} {n : ℕ} (c : RunCall W H) → Chain W H l₀ qs (c .lent) a n →
+    badBlock (length (c .block)) ≡ false → length (c .room) ≡ length (c .block) → NotRefused c
 chain-runs = C.chain-runs
 
--- so every cut of requests into blocks of good length is the requests of a chain: what follows is about all of them
-pub host-every-cut : (W H : ℕ) (w₀ t₀ : List ℕ) {r : ℕ} {w t : List ℕ} → HostClearedBy W H w₀ t₀ r w t → codeOfResult r ≡ 0 →
-    (qs : List (List ℕ)) → all (λ q. not (badBlock (length q))) qs ≡ true → ChainOf W H (length t₀) (joined [] qs)
-host-every-cut = C.every-chain
+-- a call that left what some block that is not itself refused leaves is a link, with that block's requests and the answers that it would have been given
+pub chain-link : (W H : ℕ) (l₀ : LentSurface) {qs : List (List ℕ)} {l : LentSurface} {a : List ℕ} {n : ℕ} → Chain W H l₀ qs l a n → (q room : List ℕ) →
+    let ran = hostRun W H l q room in
+    codeOfResult (ran .result) ≡ 0 → (l′ : LentSurface) → l′ ≡ ran .left → Chain W H l₀ (q ∷ qs) l′ (a ++ ran .answers) (n + firstOfResult (ran .result))
+chain-link = C.chain-link
 
 -- a further block whose requests are all refused changes no byte
-pub chain-requests-refused : (W H n : ℕ) {w t b a : List ℕ} {c : ℕ} → Chain W H n w t b a c → (q room : List ℕ) {r : ℕ} {w′ t′ a′ : List ℕ} → HostRanBy W H w t q room r w′ t′ a′ →
-    codeOfResult r ≡ 0 → countOfResult r ≡ 0 → (w′ ≡ w) × (t′ ≡ t)
-chain-requests-refused W H n {w} {t} z q room p e = Y.none-changes-back W H w t q room p e (C.chain-back W H n z)
+pub chain-requests-refused : (W H : ℕ) (l₀ : LentSurface) {qs : List (List ℕ)} {a : List ℕ} {n : ℕ} (c : RunCall W H) → Chain W H l₀ qs (c .lent) a n → NotRefused c →
+    firstOfResult (c .result) ≡ 0 → c .left ≡ c .lent
+chain-requests-refused W H l₀ c z e = S.none-changes-back c e (C.chain-back W H l₀ z)
 
--- "A surface stands when ..": clear makes one that does, whatever the buffers held, and run leaves one (the header's "freelist_clear makes one, and
--- freelist_run leaves one"), read from the bytes that the call has written
-pub clear-leaves-standing : (W H : ℕ) (w t : List ℕ) {r : ℕ} {w′ t′ : List ℕ} → HostClearedBy W H w t r w′ t′ → codeOfResult r ≡ 0 → Standing W H (weightsOf w′) t′
-clear-leaves-standing W H w t p e = C.chain-stands W H (length t) (Chain.cleared w t p refl e)
+-- "A surface stands when ..": clear makes one that does, whatever the buffers held, and run leaves one (the header's "freelist_clear makes one, and freelist_run leaves one"), read from the bytes
+-- that the call has written
+pub clear-leaves-standing : (W H : ℕ) (l : LentSurface) {r : ℕ} {l′ : LentSurface} → HostClearedBy W H l r l′ → codeOfResult r ≡ 0 → Standing W H (weightsIn l′) (l′ .table)
+clear-leaves-standing W H l p e = C.chain-stands W H l (cleared p e)
 
-pub run-leaves-standing : (W H : ℕ) (w t q room : List ℕ) {r : ℕ} {w′ t′ a′ : List ℕ} → HostRanBy W H w t q room r w′ t′ a′ → codeOfResult r ≡ 0 → Standing W H (weightsOf w′) t′
-run-leaves-standing = A.leaves-standing
+pub each-request-leaves-standing : (W H : ℕ) (c : RunCall W H) → NotRefused c → (k : ℕ) → Standing W H (upTo c k .weights) (upTo c k .table)
+each-request-leaves-standing W H = C.each-stands
+
+pub run-leaves-standing : (W H : ℕ) (c : RunCall W H) → NotRefused c → Standing W H (weightsIn (c .left)) (c .left .table)
+run-leaves-standing W H = S.leaves-standing
 
 -- ---- "After each request every cell's weight equals the one worked out afresh from the modules that the history of requests says are placed."
 
--- at every chain
-pub chain-afresh : (W H n : ℕ) {w t b a : List ℕ} {c : ℕ} → Chain W H n w t b a c → (x y : ℕ) → x < W → y < H →
-    cell W (weightsOf w) x y ≡ historyWeight (history b a (requests b)) x y
-chain-afresh W H n z = D.host-session-afresh W H n (C.chained W H n z)
+-- at every chain, in the bytes that the host gets back
+pub chain-afresh : (W H : ℕ) (l₀ : LentSurface) {qs : List (List ℕ)} {l : LentSurface} {a : List ℕ} {n : ℕ} → Chain W H l₀ qs l a n → (x y : ℕ) → x < W → y < H →
+    cell W (weightsIn l) x y ≡ historyWeight (history (joined qs) a (requests (joined qs))) x y
+chain-afresh = C.chain-afresh
 
--- and inside a further block q, after its first k requests: requests b were before them
-pub after-each-request : (W H n : ℕ) {w t b a : List ℕ} {c : ℕ} → Chain W H n w t b a c → (q room : List ℕ) {r : ℕ} {w′ t′ a′ : List ℕ} → HostRanBy W H w t q room r w′ t′ a′ →
-    codeOfResult r ≡ 0 → (k : ℕ) → k ≤ requests q → (x y : ℕ) → x < W → y < H →
-    cell W (upTo W H w t q k .weights) x y ≡ historyWeight (history (b ++ q) (a ++ a′) (requests b + k)) x y
-after-each-request = C.chain-each
+-- and inside a further call, after its first k requests: those of qs were before them
+pub after-each-request : (W H : ℕ) (l₀ : LentSurface) {qs : List (List ℕ)} {a : List ℕ} {n : ℕ} (c : RunCall W H) → Chain W H l₀ qs (c .lent) a n → NotRefused c →
+    (k : ℕ) → k ≤ requests (c .block) → (x y : ℕ) → x < W → y < H →
+    cell W (upTo c k .weights) x y ≡ historyWeight (history (joined (c .block ∷ qs)) (a ++ c .answers) (requests (joined qs) + k)) x y
+after-each-request = C.each-afresh
 
--- `upTo` is what the call runs through: its end is what the call leaves, answers and counts, and each answer is that of its request there
-pub run-leaves : (W H : ℕ) (w t q room : List ℕ) {r : ℕ} {w′ t′ a′ : List ℕ} → HostRanBy W H w t q room r w′ t′ a′ → codeOfResult r ≡ 0 →
-    let end = upTo W H w t q (requests q) in
-    (w′ ≡ bytesOf (end .weights)) × (t′ ≡ end .table) × (a′ ≡ end .answers) × (countOfResult r ≡ end .accepted)
-run-leaves = A.run-leaves
+-- `upTo` is what the call runs through: its end is what the call leaves and answers, and each answer is that of its request there
+pub run-leaves : (W H : ℕ) (c : RunCall W H) → NotRefused c →
+    let end = upTo c (requests (c .block)) in
+    (c .left ≡ lent (bytesOf (end .weights)) (end .table)) × (c .answers ≡ end .answers)
+run-leaves W H c e = (C.call-left c e, C.call-answers c e)
 
-pub run-answers : (W H : ℕ) (w t q room : List ℕ) {r : ℕ} {w′ t′ a′ : List ℕ} → HostRanBy W H w t q room r w′ t′ a′ → codeOfResult r ≡ 0 → (k : ℕ) → k < requests q →
-    request a′ k ≡ answerOf (request q k) (stepOf W H (upTo W H w t q k .table) (request q k))
-run-answers = A.answer-is
+pub run-answers : (W H : ℕ) (c : RunCall W H) → NotRefused c → (k : ℕ) → k < requests (c .block) → answered c k ≡ answerOf (asked c k) (stepOf W H (upTo c k .table) (asked c k))
+run-answers W H = A.answer-is
 
--- the table holds exactly the modules of the history, and there is an answer to each request
-pub chain-told : (W H n : ℕ) {w t b a : List ℕ} {c : ℕ} → Chain W H n w t b a c → Told (history b a (requests b)) t
+-- what a call leaves is, byte for byte, worked out afresh from the table that it leaves; so a block of one request leaves the weights worked out afresh after this request
+pub run-leaves-afresh : (W H : ℕ) (c : RunCall W H) → NotRefused c → c .left .weights ≡ bytesOf (fresh W H (c .left .table))
+run-leaves-afresh W H = S.leaves-afresh
+
+-- and the requests of a chain, each run as a block of its own, have left, answered and counted the same: a block of k is k blocks of one
+pub chain-by-ones : (W H : ℕ) (l₀ : LentSurface) {qs : List (List ℕ)} {l : LentSurface} {a : List ℕ} {n : ℕ} → Chain W H l₀ qs l a n → Chain W H l₀ (ones (joined qs) (requests (joined qs))) l a n
+chain-by-ones = S.by-ones
+
+-- the table holds exactly the modules of the history, each in its slot, and there is an answer to each request
+pub chain-told : (W H : ℕ) (l₀ : LentSurface) {qs : List (List ℕ)} {l : LentSurface} {a : List ℕ} {n : ℕ} → Chain W H l₀ qs l a n → Told (history (joined qs) a (requests (joined qs))) (l .table)
 chain-told = C.chain-told
 
-pub after-each-request-told : (W H n : ℕ) {w t b a : List ℕ} {c : ℕ} → Chain W H n w t b a c → (q room : List ℕ) {r : ℕ} {w′ t′ a′ : List ℕ} → HostRanBy W H w t q room r w′ t′ a′ →
-    codeOfResult r ≡ 0 → (k : ℕ) → k ≤ requests q → Told (history (b ++ q) (a ++ a′) (requests b + k)) (upTo W H w t q k .table)
-after-each-request-told = C.chain-each-told
+pub after-each-request-told : (W H : ℕ) (l₀ : LentSurface) {qs : List (List ℕ)} {a : List ℕ} {n : ℕ} (c : RunCall W H) → Chain W H l₀ qs (c .lent) a n → NotRefused c →
+    (k : ℕ) → k ≤ requests (c .block) → Told (history (joined (c .block ∷ qs)) (a ++ c .answers) (requests (joined qs) + k)) (upTo c k .table)
+after-each-request-told = C.each-told
 
-pub chain-answers : (W H n : ℕ) {w t b a : List ℕ} {c : ℕ} → Chain W H n w t b a c → length a ≡ length b
+pub chain-answers : (W H : ℕ) (l₀ : LentSurface) {qs : List (List ℕ)} {l : LentSurface} {a : List ℕ} {n : ℕ} → Chain W H l₀ qs l a n → length a ≡ length (joined qs)
 chain-answers = C.chain-answers
 
--- ---- "cut anyhow": chains over the same requests have left, answered and counted the same
+-- ---- "cut anyhow": chains over the same requests, with as many slots, have left, answered and counted the same
 
-pub chain-cut : (W H n : ℕ) {w t b a : List ℕ} {c : ℕ} {w′ t′ a′ : List ℕ} {c′ : ℕ} → Chain W H n w t b a c → Chain W H n w′ t′ b a′ c′ → (w ≡ w′) × (t ≡ t′) × (a ≡ a′) × (c ≡ c′)
-chain-cut W H n y z = D.host-session-cut W H n (C.chained W H n y) (C.chained W H n z)
+pub chain-cut : (W H : ℕ) {l₀ l₁ l l′ : LentSurface} {qs qs′ : List (List ℕ)} {a a′ : List ℕ} {n n′ : ℕ} → Chain W H l₀ qs l a n → Chain W H l₁ qs′ l′ a′ n′ →
+    length (l₀ .table) ≡ length (l₁ .table) → joined qs ≡ joined qs′ → (l ≡ l′) × (a ≡ a′) × (n ≡ n′)
+chain-cut = C.chain-cut
 
--- ---- "An accepted request has changed only, in each column of its module, the weights from the module's top row down to the next occupied cell below it
--- or the bottom edge, and one table record; an exchange, only those of the old module and of the new."
+-- ---- "An accepted request has changed only, in each column of its module, the weights from the module's top row down to the next occupied cell below it or the bottom edge, and one table record;
+-- an exchange, only those of the old module and of the new."
 
-pub request-frame : (W H : ℕ) (w t q room : List ℕ) {r : ℕ} {w′ t′ a′ : List ℕ} → HostRanBy W H w t q room r w′ t′ a′ → codeOfResult r ≡ 0 → (k : ℕ) → k < requests q →
-    codeIn (request a′ k) ≡ 0 → OneFramed W H (request q k) (placeIn (request a′ k)) (upTo W H w t q k) (upTo W H w t q (suc k))
-request-frame = A.answer-frame
+pub request-frame : (W H : ℕ) (c : RunCall W H) → NotRefused c → (k : ℕ) → k < requests (c .block) → codeIn (answered c k) ≡ 0 →
+    OneFramed W H (asked c k) (placeIn (answered c k)) (upTo c k) (upTo c (suc k))
+request-frame W H = A.answer-frame
+
+-- and for a block of one request, in a chain, between the bytes that the host has lent and those that it gets back
+pub one-request-frame : (W H : ℕ) (l₀ : LentSurface) {qs : List (List ℕ)} {a : List ℕ} {n : ℕ} (c : RunCall W H) → Chain W H l₀ qs (c .lent) a n → NotRefused c →
+    requests (c .block) ≡ 1 → codeIn (answered c 0) ≡ 0 → BytesFramed W H (asked c 0) (placeIn (answered c 0)) (c .lent) (c .left)
+one-request-frame W H l₀ c z e one = S.one-frame c e one (C.chain-back W H l₀ z)
+
+-- a refused one changes no byte
+pub one-request-refused : (W H : ℕ) (l₀ : LentSurface) {qs : List (List ℕ)} {a : List ℕ} {n : ℕ} (c : RunCall W H) → Chain W H l₀ qs (c .lent) a n → NotRefused c →
+    requests (c .block) ≡ 1 → (codeIn (answered c 0) ≡ 0 → ⊥) → c .left ≡ c .lent
+one-request-refused W H l₀ c z e one = S.one-refused c e one (C.chain-back W H l₀ z)
+
+-- a request is counted exactly when its answer has code 0
+pub request-counted : (W H : ℕ) (c : RunCall W H) → NotRefused c → (k : ℕ) → k < requests (c .block) →
+    upTo c (suc k) .accepted ≡ upTo c k .accepted + cond (eqb (codeIn (answered c k)) 0) 1 0
+request-counted W H = A.answer-counted

@@ -1,4 +1,2 @@
--- Laws of the calls on bytes.
-pub mod Laws
-pub mod RunLaws
+-- The exported promises leave no choice.
 pub mod Unique

@@ -1,9 +1,8 @@
-// One weight: signed 16-bit, negative for an occupied cell, a positive count for an empty one. Signed arithmetic stands here and nowhere else.
+// One weight: signed 16-bit, negative for an occupied cell, a positive count for an empty one.
 ghost use mathlib.Core.Path.{_≡_};
-ghost use Prim.Native.Nat.{ℕ, _+_, _*_, _≤_, _<_};
-ghost use lib.Dec.{ltb};
+ghost use Prim.Native.Nat.{_+_, _*_, _≤_, _<_};
 ghost use lib.ListN.{length, getD, set};
-ghost use lib.IntN.{ℤ, pos, negℤ};
+ghost use lib.IntN.{pos, negℤ};
 ghost use lib.Signed.{ltZ};
 ghost use Rattle.rules.specs.Tests.{eqZ};
 ghost use Rattle.cells.specs.Weight.{takenZ, countOf, widthOf, untaken};
@@ -33,13 +32,6 @@ pub fn height_of(v: i16) -> i16
     ensures { λ r. ⌜ r ≡ pos (countOf v) ⌝ }
 {
     if v < 0 { 0 } else { v }
-}
-
-// The first counts less than the second. Without a branch, so that the compiler takes many at a time.
-pub fn is_lower(v: i16, m: i16) -> bool
-    ensures { λ r. ⌜ r ≡ ltb (countOf v) (countOf m) ⌝ }
-{
-    is_less(height_of(v), height_of(m))
 }
 
 pub fn count_of(v: i16) -> usize
@@ -84,11 +76,11 @@ pub fn count_at(s: &[i16], i: usize) -> usize
     count_of(s[i])
 }
 
-pub fn width_at(s: &[i16], i: usize) -> usize
+pub fn put_weight(s: &mut [i16], i: usize, v: i16)
     requires { ⌜ i < length (now s) ⌝ }
-    ensures { λ r. ⌜ r ≡ widthOf (getD (now (s .entry)) i (pos 0)) ⌝ }
+    ensures { λ _. ⌜ now (s .exit) ≡ set (now (s .entry)) i v ⌝ }
 {
-    width_of(s[i])
+    s[i] = v;
 }
 
 pub fn put_count(s: &mut [i16], i: usize, n: usize)

@@ -1,6 +1,6 @@
 -- THE ROWS THAT ARE PASSED OVER HAVE NO ENTRY WITH ROOM FOR THE MODULE. Assumes nothing.
 use mathlib.Core.Path.{_≡_, refl, sym, ap, _∙_}
-use mathlib.Core.Bool.{true, not}
+use mathlib.Core.Bool.{true, false, not}
 use mathlib.Core.Logic.{⊎-elim}
 use mathlib.Core.List.{List, [], _∷_, List·Memᴰ, Memᴰ·of-map}
 use Prim.Native.Nat.{ℕ, suc, _+_, _-_, _≤_, _<_}
@@ -20,12 +20,12 @@ use Rattle.listing.specs.Row.{Entry}
 use Rattle.listing.specs.Meaning.{IsEntry}
 use Rattle.listing.specs.Listed.{heightOf, support, entryRect, entriesIn, rectsIn}
 use Rattle.listing.proofs.Meaning.{entries-mem}
-use Rattle.listing.proofs.List.{drawn}
+use Rattle.listing.proofs.ListLaws.{drawn}
 use Rattle.listing.proofs.Cells.{height-past, height-taken, taken-is, count-is}
 use Rattle.choice.specs.Best.{better, bestOf}
 use Rattle.choice.specs.Room.{noneFits}
 use Rattle.choice.specs.declared.Best.{Best}
-use Rattle.choice.proofs.Costs.{fits-wide, fits-high, better-small}
+use Rattle.choice.proofs.Costs.{fits-wide, fits-high, better-by}
 
 -- ---- such a row changes nothing
 
@@ -33,7 +33,7 @@ pub best-unfit : (W H rule w h : ℕ) (b : Best) (l : List Rect) → noneFits w 
 unfolding noneFits all bestOf
 best-unfit W H rule w h b [] e = refl
 best-unfit W H rule w h b (d ∷ l) e =
-    let p : b ≡ better W H rule w h b d = better-small W H rule w h b d (not-true _ (and-right (all (λ e. not (fits w h e)) l) (not (fits w h d)) e)) in
+    let p : b ≡ better W H rule w h b d = better-by W H rule w h b d false (not-true _ (and-right (all (λ e. not (fits w h e)) l) (not (fits w h d)) e)) in
     best-unfit W H rule w h b l (and-left (all (λ e. not (fits w h e)) l) (not (fits w h d)) e) ∙ ap (λ a. bestOf W H rule w h a l) p
 
 -- ---- cells side by side that are high enough. f has a row's heights, m is the height asked for, n the width
@@ -54,6 +54,10 @@ pub record Runs (f : ℕ → ℕ) (m n run x : ℕ) : Type 0 where
   pub none : (l k : ℕ) → 1 ≤ k → n ≤ k → l + k ≤ x → AllTall f m l (l + k) → ⊥
 
 module _ {f : ℕ → ℕ} {m n : ℕ} where
+  -- a stretch up to column x + 1 ends there, or lies before x
+  none-more : (run x : ℕ) → Runs f m n run x → ((l k : ℕ) → 1 ≤ k → n ≤ k → l + k ≡ x + 1 → AllTall f m l (l + k) → ⊥) → (l k : ℕ) → 1 ≤ k → n ≤ k → l + k ≤ x + 1 → AllTall f m l (l + k) → ⊥
+  none-more run x r s l k a b c t = ⊎-elim (λ e. s l k a b e t) (λ (e : l + k < x + 1). r .none l k a b (omega arith) t) (eq-or-lt-of-le c)
+
   pub runs-start : Runs f m n 0 0
   runs-start = record { few = le-refl 0; back = λ l a. omega arith; none = λ l k a b c. absurd (omega arith) }
 
@@ -62,11 +66,7 @@ module _ {f : ℕ → ℕ} {m n : ℕ} where
   runs-more run x r h = record {
     few = omega (arith, r .few);
     back = λ l a. omega (arith, r .back l (λ c p q. a c p (omega arith)));
-    none = λ l k a b c t.
-        ⊎-elim
-        (λ (e : l + k ≡ x + 1). omega (arith, r .back l (λ j p q. t j p (omega arith))))
-        (λ (e : l + k < x + 1). r .none l k a b (omega arith) t)
-        (eq-or-lt-of-le c);
+    none = none-more run x r (λ l k a b e t. omega (arith, r .back l (λ j p q. t j p (omega arith))));
   }
 
   -- a column that is not high enough: no stretch ends there, and the run begins anew behind it
@@ -77,11 +77,7 @@ module _ {f : ℕ → ℕ} {m n : ℕ} where
       | yes h ↦ absurd (s (a x (omega arith) (omega arith)))
       | no h ↦ omega arith
     ];
-    none = λ l k a b c t.
-        ⊎-elim
-        (λ (e : l + k ≡ x + 1). s (t x (omega arith) (omega arith)))
-        (λ (e : l + k < x + 1). r .none l k a b (omega arith) t)
-        (eq-or-lt-of-le c);
+    none = none-more run x r (λ l k a b e t. s (t x (omega arith) (omega arith)));
   }
 
 -- ---- the cells of row y on a standing surface
@@ -112,7 +108,7 @@ module _ (W H : ℕ) (s : List ℤ) (t : List ℕ) (S : Standing W H s t) (y : �
 
   -- A MODULE HIGHER THAN THE ROW'S PLACE
   pub too-high : (w h : ℕ) → y + 1 < h → noneFits w h (rectsIn (occupied t) W H y) ≡ true
-  too-high w h l = none-fits w h (λ e m p q. omega (arith, drawn (occupied t) W H y py (S .widest) (S .highest) e m .top))
+  too-high w h l = none-fits w h (λ e m p q. omega (arith, drawn (occupied t) W H y py (S .sides .widest) (S .sides .highest) e m .top))
 
   -- NOWHERE IN THE ROW ARE w COLUMNS SIDE BY SIDE HIGH ENOUGH
   pub too-short : (w h run x : ℕ) → Runs f h w run x → W ≤ x → noneFits w h (rectsIn (occupied t) W H y) ≡ true

@@ -16,10 +16,16 @@ use Rattle.rules.specs.declared.Rect.{Rect}
 use Rattle.listing.specs.Row.{Entry, span}
 use Rattle.listing.specs.Listed.{entryRect, entriesIn, rectsIn, listed}
 use Rattle.listing.proofs.Spans.{span-more}
-use Rattle.listing.proofs.List.{entries-listed}
-use Rattle.choice.specs.Best.{choiceOf, placeIn, better, bestOf, unbeaten}
+use Rattle.listing.proofs.ListLaws.{entries-listed}
+use Rattle.choice.specs.Best.{choiceOf, codeOf, valuesOf, Chosen, placeIn, better, bestOf, unbeaten}
+use Rattle.choice.specs.declared.Choice.{Choice}
 use Rattle.choice.specs.declared.Best.{Best}
 use Rattle.choice.specs.declared.Best.the-variants.{Found, Nothing}
+
+-- a choice by its number and its values
+pub chosen-by : (o : Option Rect) (c : Choice) → c ≡ choiceOf o → Chosen o c
+chosen-by none c e = record { code = ap codeOf e; values = ap valuesOf e }
+chosen-by (some r) c e = record { code = ap codeOf e; values = ap valuesOf e }
 
 module _ (W H rule w h : ℕ) where
   abbrev best : Best → List Rect → Best
@@ -97,11 +103,6 @@ module _ (W H rule w h : ℕ) where
   pub row-best : (occ : ℕ → ℕ → Bool) (y : ℕ) (b b′ : Best) (l : List Entry) → l ≡ entriesIn occ W H y → b′ ≡ best b (map (entryRect y) l) → b′ ≡ best b (rectsIn occ W H y)
   unfolding rectsIn
   row-best occ y b b′ l p q = q ∙ ap (λ m. best b (map (entryRect y) m)) p
-
-  -- .. and where it has no entry
-  pub row-none : (occ : ℕ → ℕ → Bool) (y : ℕ) (b : Best) → entriesIn occ W H y ≡ [] → b ≡ best b (rectsIn occ W H y)
-  unfolding bestOf
-  row-none occ y b e = row-best occ y b b [] (sym e) refl
 
   pub rows-more : (occ : ℕ → ℕ → Bool) (y : ℕ) (b b′ : Best) → b ≡ best Nothing (listed occ W H y) → b′ ≡ best b (rectsIn occ W H y) →
       b′ ≡ best Nothing (listed occ W H (y + 1))

@@ -1,11 +1,13 @@
 -- THE CHOICE BY RULE as one walk over the list: the best entry with room so far, as its cost and the place that it gives. W and H are the surface's
 -- size, w and h the module's.
+use mathlib.Core.Path.{_≡_}
 use mathlib.Core.Bool.{Bool, false, cond}
 use mathlib.Core.List.{List, [], _∷_}
 use mathlib.Core.Option.{Option, none, some}
 use Prim.Native.Nat.{ℕ, _+_, _≤_}
 use lib.Dec.{ltb, eqb}
-use Rattle.rules.specs.Requests.{fits, cost, lowerLeft}
+use Rattle.rules.specs.Surface.{rect}
+use Rattle.rules.specs.Requests.{fits, cost, lowerLeft, orNone}
 use Rattle.rules.specs.declared.Rect.{Rect}
 use Rattle.choice.specs.declared.Choice.{Choice}
 use Rattle.choice.specs.declared.Choice.the-variants.{At, Nowhere}
@@ -16,6 +18,27 @@ use Rattle.choice.specs.declared.Best.the-variants.{Found, Nothing}
 abbrev pub choiceOf : Option Rect → Choice
 choiceOf none = Nowhere
 choiceOf (some r) = At r
+
+-- ---- this paper's number and values for each case of a choice
+
+-- code 20, "no position has all its cells empty", for nowhere; a place is not refused
+abbrev pub codeOf : Choice → ℕ
+codeOf Nowhere = 20
+codeOf (At r) = 0
+
+-- "x, y, w, h: of the new module .. A refusal has four zeros there."
+abbrev pub valuesOf : Choice → Rect
+valuesOf Nowhere = rect 0 0 0 0
+valuesOf (At r) = r
+
+-- c is the choice for the place o that the rule chose: refused where it chose none
+abbrev pub codeFor : Option Rect → ℕ
+codeFor none = 20
+codeFor (some r) = 0
+
+pub record Chosen (o : Option Rect) (c : Choice) : Type 0 where
+  pub code : codeOf c ≡ codeFor o
+  pub values : valuesOf c ≡ orNone o
 
 -- the place of the best so far
 abbrev pub placeIn : Best → Choice

@@ -8,7 +8,7 @@ ghost use Rattle.rules.specs.Surface.{Standing, occupied};
 ghost use Rattle.rules.specs.Requests.{fits, cost as costOf, rulePlace};
 ghost use Rattle.listing.specs.Row.{entry, entryAt, rows};
 ghost use Rattle.listing.specs.Listed.{entryRect, rectsIn, listed, Scans, Drawn};
-ghost use Rattle.choice.specs.Best.{Entered, better, bestOf, unbeaten, placeIn, choiceOf};
+ghost use Rattle.choice.specs.Best.{Entered, better, bestOf, unbeaten, placeIn, Chosen};
 ghost use Rattle.choice.specs.Room.{noneFits};
 ghost use Rattle.choice.specs.declared.Best.the-variants.{Nothing};
 use rules::Rect;
@@ -184,7 +184,7 @@ fn best_row(
     if !row_has_room(w, h, weights, table, y, mw, mh) {
         return b;
     }
-    let c = listing::row(w, h, weights, table, y, lefts, rights, heights);
+    let c = listing::row::row(w, h, weights, table, y, lefts, rights, heights);
     let n = c.entries;
     best_in(w, h, mw, mh, rule, y, n, lefts, rights, heights, b)
 }
@@ -218,7 +218,7 @@ fn best_on(
     requires { ⌜ (h ≤ length (now scans)) × (w ≤ length (now lefts)) × (w ≤ length (now rights)) × (w ≤ length (now heights)) ⌝ }
     ensures { λ r. ⌜ r ≡ bestOf w h rule mw mh Nothing (listed (occupied (now (table .entry))) w h h) ⌝ }
 {
-    listing::scanned_rows(h, table, scans);
+    listing::scanned::scanned_rows(h, table, scans);
     let mut best = Best::Nothing;
     let mut y = 0;
     while y < h {
@@ -267,7 +267,7 @@ pub fn choose(
 ) -> Choice
     requires { ⌜ Standing w h (now weights) (now table) ⌝ }
     requires { ⌜ rule ≤ 2 ⌝ }
-    ensures { λ r. ⌜ r ≡ choiceOf (rulePlace (occupied (now (table .entry))) w h rule mw mh) ⌝ }
+    ensures { λ r. ⌜ Chosen (rulePlace (occupied (now (table .entry))) w h rule mw mh) r ⌝ }
 {
     let mut scans = [0u8; 64];
     let mut lefts = [0u8; 64];

@@ -35,7 +35,9 @@ fn weight_at(b: &[u8], k: usize) -> i16
     requires { ⌜ 2 * k + 1 < length (now b) ⌝ }
     ensures { λ r. ⌜ r ≡ weightAt (now (b .entry)) k ⌝ }
 {
-    from_bits(wide(b[2 * k]) + 256 * wide(b[2 * k + 1]))
+    let low = wide(b[2 * k]);
+    let high = wide(b[2 * k + 1]);
+    from_bits(low + 256 * high)
 }
 
 // Whether the bytes hold these weights. It looks at all of them, so that the compiler takes many at a time.

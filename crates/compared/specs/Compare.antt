@@ -5,8 +5,7 @@ use Prim.Native.Nat.{ℕ}
 use lib.Dec.{eqb}
 use lib.IntN.{ℤ}
 use Rattle.rules.specs.Tests.{eqZ}
-use Rattle.rules.specs.Calls.{clear, check, run, list}
-use Rattle.rules.specs.Figures.{sameItems, caseHolds}
+use Rattle.rules.specs.Figures.{clear, check, run, list, sameItems, caseHolds}
 
 -- sizes, weights and table, as lent
 pub record Lent : Type 0 where

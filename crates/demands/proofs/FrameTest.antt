@@ -1,10 +1,9 @@
 -- THE FRAME AS A TEST, which the examples compute, says what the frame says. Assumes nothing.
 use mathlib.Core.Path.{_≡_, ap}
 use mathlib.Core.Bool.{Bool, true, not, _&&_, _||_}
-use mathlib.Core.Logic.{_↔_, ⊎-elim}
+use mathlib.Core.Logic.{_↔_}
 use mathlib.Core.List.{List}
 use Prim.Native.Nat.{ℕ, suc, _+_}
-use native.Mathlib.Decide.{decLt}
 use native.Mathlib.Omega.{arith}
 use borrow.Author.Tests.{ltb-true, leb-true, lt-ltb, le-leb, not-true}
 use lib.Dec.{leb, ltb}
@@ -12,9 +11,9 @@ use Rattle.rules.specs.Tests.{every}
 use Rattle.rules.specs.Surface.{rectOf, occupied}
 use Rattle.rules.specs.Requests.{needsOld}
 use Rattle.rules.specs.declared.Rect.{Rect}
-use Rattle.rules.proofs.Tests.{and-left, and-right, and-both, and-four, four-and, or-which, or-left, or-right, every-at, every-yes}
-use Rattle.modules.specs.Change.{Reached}
-use Rattle.demands.specs.Frame.{oldSlot, bare, MayChange}
+use Rattle.rules.proofs.Tests.{and-left, and-right, and-both, and-four, four-and, or-left, or-right, every-at, every-yes}
+use Rattle.meaning.proofs.Splits.{by-or, by-less}
+use Rattle.demands.specs.Frame.{Reached, oldSlot, bare, MayChange}
 use Rattle.demands.specs.Frame.MayChange.{ofModule, ofOld}
 use Rattle.demands.specs.Examples.{reaches, mayChange}
 
@@ -31,20 +30,19 @@ module _ (m : Rect) (t : List ℕ) (c r : ℕ) where
         right = ltb-true c (m .x + m .w) (k .1);
         top = leb-true (m .y) r (k .2);
         clear = λ j lo hi.
-            ⊎-elim
-            (λ (z : ltb j (m .y + m .h) ≡ true). absurd (omega (arith, ltb-true j (m .y + m .h) z)))
-            (λ (z : not (occupied t c j) ≡ true). not-true (occupied t c j) z)
-            (or-which (ltb j (m .y + m .h)) (not (occupied t c j)) (every-at (suc r) below (k .3) j (omega arith)));
+            by-or (ltb j (m .y + m .h)) (not (occupied t c j)) (every-at (suc r) below (k .3) j (omega arith))
+            (λ z. absurd (omega (arith, ltb-true j (m .y + m .h) z)))
+            (not-true (occupied t c j));
       }
 
   says-reaches : Reached m t c r → reaches m t c r ≡ true
   unfolding reaches
   says-reaches z =
       four-and (le-leb (m .x) c (z .left)) (lt-ltb c (m .x + m .w) (z .right)) (le-leb (m .y) r (z .top))
-      (every-yes (suc r) below (λ j l. elim (decLt j (m .y + m .h)) [
-        | yes h ↦ or-left (ltb j (m .y + m .h)) (not (occupied t c j)) (lt-ltb j (m .y + m .h) h)
-        | no h ↦ or-right (ltb j (m .y + m .h)) (not (occupied t c j)) (ap not (z .clear j (omega arith) (omega arith)))
-      ]))
+      (every-yes (suc r) below (λ j l.
+      by-less j (m .y + m .h)
+      (λ h. or-left (ltb j (m .y + m .h)) (not (occupied t c j)) (lt-ltb j (m .y + m .h) h))
+      (λ h. or-right (ltb j (m .y + m .h)) (not (occupied t c j)) (ap not (z .clear j h (omega arith))))))
 
 -- THE TEST AND THE FRAME AGREE
 pub may-change-is : (t q : List ℕ) (r : Rect) (c y : ℕ) → (mayChange t q r c y ≡ true) ↔ MayChange t q r c y
@@ -53,12 +51,10 @@ may-change-is t q r c y = (says, test)
   where
     says : (reaches r (bare t q) c y || (needsOld q && reaches (rectOf t (oldSlot t q)) (bare t q) c y)) ≡ true → MayChange t q r c y
     says e =
-        ⊎-elim
-        (λ (z : reaches r (bare t q) c y ≡ true). ofModule (reaches-says r (bare t q) c y z))
-        (λ (z : (needsOld q && reaches (rectOf t (oldSlot t q)) (bare t q) c y) ≡ true).
-        ofOld (and-left (needsOld q) (reaches (rectOf t (oldSlot t q)) (bare t q) c y) z)
-        (reaches-says (rectOf t (oldSlot t q)) (bare t q) c y (and-right (needsOld q) (reaches (rectOf t (oldSlot t q)) (bare t q) c y) z)))
-        (or-which (reaches r (bare t q) c y) (needsOld q && reaches (rectOf t (oldSlot t q)) (bare t q) c y) e)
+        let old = reaches (rectOf t (oldSlot t q)) (bare t q) c y in
+        by-or (reaches r (bare t q) c y) (needsOld q && old) e
+        (λ z. ofModule (reaches-says r (bare t q) c y z))
+        (λ z. ofOld (and-left (needsOld q) old z) (reaches-says (rectOf t (oldSlot t q)) (bare t q) c y (and-right (needsOld q) old z)))
 
     test : MayChange t q r c y → (reaches r (bare t q) c y || (needsOld q && reaches (rectOf t (oldSlot t q)) (bare t q) c y)) ≡ true
     test (ofModule z) = or-left (reaches r (bare t q) c y) (needsOld q && reaches (rectOf t (oldSlot t q)) (bare t q) c y) (says-reaches r (bare t q) c y z)

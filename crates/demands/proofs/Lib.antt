@@ -1,14 +1,15 @@
--- `Demands` first: the three demands, as theorems. `Stands`: a cleared surface stands. `Refusals`: codes, and
--- when a request by rule is refused. `Kept`: a refused call writes nothing. `Cuts`: blocks one behind the other. `Frames`: what an accepted request may
--- have changed; `FrameTest`: the same as a test. `Modules`: the history and the table. `Afresh`: the weights worked out from the history. `Runs`, `HostRuns`: sessions.
-pub mod Demands
-pub mod Stands
+-- The demands, from the contracts. `Chains`: calls one after the other; `Single`: blocks of one, in bytes; `Answered`: each request's answer; `Lists`: a list call; `Calls`: what a contract
+-- says of a call; `Refusals`: codes, and when a request by rule is refused. Below them, over any step: `Blocks`; the history and the table: `Told`, `Afresh`; the frame: `Frames`, and as a test
+-- `FrameTest`. `Stands`: a cleared surface stands.
+pub mod Chains
+pub mod Single
+pub mod Answered
+pub mod Lists
+pub mod Calls
 pub mod Refusals
-pub mod Kept
-pub mod Cuts
+pub mod Blocks
+pub mod Told
+pub mod Afresh
 pub mod Frames
 pub mod FrameTest
-pub mod Modules
-pub mod Afresh
-pub mod Runs
-pub mod HostRuns
+pub mod Stands

@@ -1,4 +1,4 @@
--- A CLEARED SURFACE STANDS. (That one stands after every request is `Left` of modules.) Assumes nothing.
+-- A CLEARED SURFACE STANDS. (That one stands after every request: `after-by-stands`, meaning/proofs/Steps.) Assumes nothing.
 use mathlib.Core.Path.{_≡_, refl, sym, ap, ap₂, _∙_}
 use mathlib.Core.Bool.{Bool, true, false, not, _&&_, true≢false}
 use mathlib.Core.List.{List, _∷_}
@@ -12,9 +12,9 @@ use Rattle.rules.specs.Surface.{Standing, slots, idOf, rectOf, freeSlot, covers
 use Rattle.rules.specs.Calls.{clearCode, clearLines, clearedTable, clearedWeights}
 use Rattle.rules.proofs.Tests.{none-any}
 use Rattle.meaning.proofs.Weights.{weight-empty}
-use Rattle.table.proofs.Laws.{bytes-free}
-use Rattle.modules.proofs.Stand.{told-slots, told-ids, told-apart, standing-of}
-use Rattle.surface.proofs.CallLaws.{good}
+use Rattle.meaning.proofs.Tables.{bytes-free}
+use Rattle.meaning.proofs.Stands.{told-slots, told-ids, told-apart, standing-of}
+use Rattle.meaning.proofs.Codes.{good}
 
 zero-byte : (n k : ℕ) → _≡_ {A = ℕ} (getD (replicate n 0) k 0) 0
 zero-byte zero k = refl
@@ -60,10 +60,7 @@ cleared-stands bad W H t e =
     let m : slots u ≡ length t / 8 = ap (λ k. k / 8) n in
     standing-of W H (clearedWeights W H) u
     (record {
-      wide = g .wide;
-      widest = g .widest;
-      high = g .high;
-      highest = g .highest;
+      sides = g .sides;
       whole = n ∙ g .whole ∙ ap (λ k. 8 * k) (sym m);
       some = omega (arith, m, g .some);
       few = omega (arith, m, g .few);

@@ -15,7 +15,7 @@ use Rattle.rules.specs.Calls.{clearedWeights}
 use Rattle.rules.specs.Figures.{caseHolds, eight, e, o}
 use Rattle.rules.specs.declared.Rect.{Rect}
 use Rattle.demands.specs.Frame.{oldSlot, bare}
-use Rattle.demands.specs.History.{Module, moduleAt, placeIn, taken, remains, history, historyWeight}
+use Rattle.demands.specs.History.{Module, moduleAt, leastUnused, slotIn, placeIn, taken, remains, history, historyWeight}
 
 -- ---- the frame as a test (that it says what `MayChange` says is `may-change-is` in proofs/FrameTest)
 
@@ -69,16 +69,16 @@ remove id = eight 2 0 id 0 0 0 0 0
 abbrev pub storyG : Story
 storyG = record { w = 3; h = 3; slots = 2; block = pin 7 1 1 1 1 ++ eight 4 2 7 0 2 2 0 0 }
 
-pub g-told : tellings storyG ≡ (moduleAt 7 (rect 1 1 1 1) ∷ []) ∷ (moduleAt 7 (rect 0 1 2 2) ∷ []) ∷ []
-unfolding caseHolds history
+pub g-told : tellings storyG ≡ (moduleAt 0 7 (rect 1 1 1 1) ∷ []) ∷ (moduleAt 0 7 (rect 0 1 2 2) ∷ []) ∷ []
+unfolding caseHolds history leastUnused slotIn
 g-told = refl
 
 pub g-afresh : reckonings storyG ≡ (e 1 ∷ e 1 ∷ e 1 ∷ e 2 ∷ o 1 ∷ e 2 ∷ e 3 ∷ e 1 ∷ e 3 ∷ []) ∷ (e 1 ∷ e 1 ∷ e 1 ∷ o 2 ∷ o 1 ∷ e 2 ∷ o 2 ∷ o 1 ∷ e 3 ∷ []) ∷ []
-unfolding caseHolds history taken remains historyWeight
+unfolding caseHolds history leastUnused slotIn taken remains historyWeight
 g-afresh = refl
 
 pub g-weights : weighings storyG ≡ reckonings storyG
-unfolding caseHolds history taken remains historyWeight
+unfolding caseHolds history leastUnused slotIn taken remains historyWeight
 g-weights = refl
 
 -- the pin: (1,1) and (1,2) below it; the exchange: columns 0 and 1 from row 1 down
@@ -94,16 +94,16 @@ storyH = record { w = 3; h = 3; slots = 2; block = pin 7 1 1 1 1 ++ eight 4 0 7 
 abbrev pinnedH : List ℤ
 pinnedH = e 1 ∷ e 1 ∷ e 1 ∷ e 2 ∷ o 1 ∷ e 2 ∷ e 3 ∷ e 1 ∷ e 3 ∷ []
 
-pub h-told : tellings storyH ≡ (moduleAt 7 (rect 1 1 1 1) ∷ []) ∷ (moduleAt 7 (rect 1 1 1 1) ∷ []) ∷ (moduleAt 7 (rect 1 1 1 1) ∷ []) ∷ (moduleAt 7 (rect 1 1 1 1) ∷ []) ∷ []
-unfolding caseHolds history
+pub h-told : tellings storyH ≡ (moduleAt 0 7 (rect 1 1 1 1) ∷ []) ∷ (moduleAt 0 7 (rect 1 1 1 1) ∷ []) ∷ (moduleAt 0 7 (rect 1 1 1 1) ∷ []) ∷ (moduleAt 0 7 (rect 1 1 1 1) ∷ []) ∷ []
+unfolding caseHolds history leastUnused slotIn
 h-told = refl
 
 pub h-afresh : reckonings storyH ≡ pinnedH ∷ pinnedH ∷ pinnedH ∷ pinnedH ∷ []
-unfolding caseHolds history taken remains historyWeight
+unfolding caseHolds history leastUnused slotIn taken remains historyWeight
 h-afresh = refl
 
 pub h-weights : weighings storyH ≡ reckonings storyH
-unfolding caseHolds history taken remains historyWeight
+unfolding caseHolds history leastUnused slotIn taken remains historyWeight
 h-weights = refl
 
 -- ---- a removal: one column of four cells, pins at rows 0 and 2, and row 2 freed. The history forgets id 2
@@ -111,16 +111,16 @@ h-weights = refl
 abbrev pub storyRemoved : Story
 storyRemoved = record { w = 1; h = 4; slots = 2; block = pin 1 0 0 1 1 ++ pin 2 0 2 1 1 ++ remove 2 }
 
-pub removed-told : tellings storyRemoved ≡ (moduleAt 1 (rect 0 0 1 1) ∷ []) ∷ (moduleAt 2 (rect 0 2 1 1) ∷ moduleAt 1 (rect 0 0 1 1) ∷ []) ∷ (moduleAt 1 (rect 0 0 1 1) ∷ []) ∷ []
-unfolding caseHolds history
+pub removed-told : tellings storyRemoved ≡ (moduleAt 0 1 (rect 0 0 1 1) ∷ []) ∷ (moduleAt 1 2 (rect 0 2 1 1) ∷ moduleAt 0 1 (rect 0 0 1 1) ∷ []) ∷ (moduleAt 0 1 (rect 0 0 1 1) ∷ []) ∷ []
+unfolding caseHolds history leastUnused slotIn
 removed-told = refl
 
 pub removed-afresh : reckonings storyRemoved ≡ (o 1 ∷ e 1 ∷ e 2 ∷ e 3 ∷ []) ∷ (o 1 ∷ e 1 ∷ o 1 ∷ e 1 ∷ []) ∷ (o 1 ∷ e 1 ∷ e 2 ∷ e 3 ∷ []) ∷ []
-unfolding caseHolds history taken remains historyWeight
+unfolding caseHolds history leastUnused slotIn taken remains historyWeight
 removed-afresh = refl
 
 pub removed-weights : weighings storyRemoved ≡ reckonings storyRemoved
-unfolding caseHolds history taken remains historyWeight
+unfolding caseHolds history leastUnused slotIn taken remains historyWeight
 removed-weights = refl
 
 -- the first pin: to the bottom edge; the second, and its removal: from row 2 down
@@ -134,13 +134,13 @@ abbrev pub storyExchanged : Story
 storyExchanged = record { w = 1; h = 4; slots = 3; block = pin 1 0 0 1 1 ++ pin 2 0 2 1 1 ++ remove 2 ++ eight 4 2 1 0 1 2 0 0 ++ pin 5 0 0 1 1 }
 
 pub exchanged-told : tellings storyExchanged
-    ≡ (moduleAt 1 (rect 0 0 1 1) ∷ [])
-    ∷ (moduleAt 2 (rect 0 2 1 1) ∷ moduleAt 1 (rect 0 0 1 1) ∷ [])
-    ∷ (moduleAt 1 (rect 0 0 1 1) ∷ [])
-    ∷ (moduleAt 1 (rect 0 2 1 2) ∷ [])
-    ∷ (moduleAt 5 (rect 0 0 1 1) ∷ moduleAt 1 (rect 0 2 1 2) ∷ [])
+    ≡ (moduleAt 0 1 (rect 0 0 1 1) ∷ [])
+    ∷ (moduleAt 1 2 (rect 0 2 1 1) ∷ moduleAt 0 1 (rect 0 0 1 1) ∷ [])
+    ∷ (moduleAt 0 1 (rect 0 0 1 1) ∷ [])
+    ∷ (moduleAt 0 1 (rect 0 2 1 2) ∷ [])
+    ∷ (moduleAt 1 5 (rect 0 0 1 1) ∷ moduleAt 0 1 (rect 0 2 1 2) ∷ [])
     ∷ []
-unfolding caseHolds history
+unfolding caseHolds history leastUnused slotIn
 exchanged-told = refl
 
 pub exchanged-afresh : reckonings storyExchanged
@@ -150,14 +150,40 @@ pub exchanged-afresh : reckonings storyExchanged
     ∷ (e 1 ∷ e 2 ∷ o 1 ∷ o 1 ∷ [])
     ∷ (o 1 ∷ e 1 ∷ o 1 ∷ o 1 ∷ [])
     ∷ []
-unfolding caseHolds history taken remains historyWeight
+unfolding caseHolds history leastUnused slotIn taken remains historyWeight
 exchanged-afresh = refl
 
 pub exchanged-weights : weighings storyExchanged ≡ reckonings storyExchanged
-unfolding caseHolds history taken remains historyWeight
+unfolding caseHolds history leastUnused slotIn taken remains historyWeight
 exchanged-weights = refl
 
 -- the exchange: from the old module's top row down, for without it nothing is below; the last pin: down to the occupied row 2 and no further
 pub exchanged-reached : reachings storyExchanged ≡ (0 ∷ 1 ∷ 2 ∷ 3 ∷ []) ∷ (2 ∷ 3 ∷ []) ∷ (2 ∷ 3 ∷ []) ∷ (0 ∷ 1 ∷ 2 ∷ 3 ∷ []) ∷ (0 ∷ 1 ∷ []) ∷ []
 unfolding caseHolds reaches mayChange
 exchanged-reached = refl
+
+-- ---- "down to the next occupied cell below it": one column of five cells, id 2 pinned at row 3. Id 1, above it, is removed, pinned again, and exchanged to
+-- 1×2 by rule 0: at (0,1)
+
+abbrev pub storyStopped : Story
+storyStopped = record { w = 1; h = 5; slots = 3; block = pin 1 0 0 1 1 ++ pin 2 0 3 1 1 ++ remove 1 ++ pin 1 0 0 1 1 ++ eight 4 0 1 0 1 2 0 0 }
+
+-- the first pin: to the bottom edge; each of the last three: down to the occupied row 3 and no further
+pub stopped-reached : reachings storyStopped ≡ (0 ∷ 1 ∷ 2 ∷ 3 ∷ 4 ∷ []) ∷ (3 ∷ 4 ∷ []) ∷ (0 ∷ 1 ∷ 2 ∷ []) ∷ (0 ∷ 1 ∷ 2 ∷ []) ∷ (0 ∷ 1 ∷ 2 ∷ []) ∷ []
+unfolding caseHolds reaches mayChange
+stopped-reached = refl
+
+-- ---- slots: ids 1 and 2 are pinned, 1 is removed, 2 gives way to 1×2 and keeps slot 1, and id 5 goes into slot 0, which was freed
+
+abbrev pub storySlots : Story
+storySlots = record { w = 1; h = 4; slots = 3; block = pin 1 0 0 1 1 ++ pin 2 0 3 1 1 ++ remove 1 ++ eight 4 2 2 0 1 2 0 0 ++ pin 5 0 0 1 1 }
+
+pub slots-told : tellings storySlots
+    ≡ (moduleAt 0 1 (rect 0 0 1 1) ∷ [])
+    ∷ (moduleAt 1 2 (rect 0 3 1 1) ∷ moduleAt 0 1 (rect 0 0 1 1) ∷ [])
+    ∷ (moduleAt 1 2 (rect 0 3 1 1) ∷ [])
+    ∷ (moduleAt 1 2 (rect 0 2 1 2) ∷ [])
+    ∷ (moduleAt 0 5 (rect 0 0 1 1) ∷ moduleAt 1 2 (rect 0 2 1 2) ∷ [])
+    ∷ []
+unfolding caseHolds history leastUnused slotIn
+slots-told = refl

@@ -1,21 +1,38 @@
--- A TABLE THAT THE HISTORY TELLS: it holds exactly the modules of the history.
+-- A TABLE THAT THE HISTORY TELLS: it holds exactly the modules of the history, each in its slot.
 use mathlib.Core.Path.{_≡_}
-use mathlib.Core.Bool.{false}
+use mathlib.Core.Bool.{true, false}
 use mathlib.Core.Logic.{_↔_}
 use mathlib.Core.List.{List, List·Memᴰ}
 use Prim.Native.Nat.{ℕ, _<_}
 use Rattle.rules.specs.Surface.{slots, idOf, rectOf, freeSlot}
 use Rattle.rules.specs.Empties.{Ordered}
-use Rattle.demands.specs.History.{Module}
+use Rattle.rules.specs.declared.Rect.{Rect}
+use Rattle.demands.specs.History.{Module, moduleAt}
 
--- some used slot has this id and this rectangle
+-- the module's slot is used, with its id and its rectangle
 pub record HasModule (t : List ℕ) (m : Module) : Type 0 where
-  pub slot : ℕ
-  pub low : slot < slots t
-  pub used : freeSlot t slot ≡ false
-  pub id : idOf t slot ≡ m .id
-  pub place : rectOf t slot ≡ m .place
+  pub low : m .slot < slots t
+  pub used : freeSlot t (m .slot) ≡ false
+  pub id : idOf t (m .slot) ≡ m .id
+  pub place : rectOf t (m .slot) ≡ m .place
 
 pub record Told (h : List Module) (t : List ℕ) : Type 0 where
   pub exact : (m : Module) → List·Memᴰ m h ↔ HasModule t m
   pub differ : Ordered (λ (m n : Module). m .id ≡ n .id → ⊥) h
+
+-- some slot of the table has a module with this id and this rectangle
+pub record Placed (t : List ℕ) (id : ℕ) (r : Rect) : Type 0 where
+  pub slot : ℕ
+  pub has : HasModule t (moduleAt slot id r)
+
+-- slot i is free, and every slot before it is used
+pub record LowestFree (t : List ℕ) (i : ℕ) : Type 0 where
+  pub slot : i < slots t
+  pub free : freeSlot t i ≡ true
+  pub before : (j : ℕ) → j < i → freeSlot t j ≡ false
+
+-- slot i is used, and n is its id
+pub record SlotOfId (t : List ℕ) (i n : ℕ) : Type 0 where
+  pub slot : i < slots t
+  pub used : freeSlot t i ≡ false
+  pub named : idOf t i ≡ n

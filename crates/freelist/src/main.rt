@@ -2,11 +2,16 @@
 // read, in pieces of any size, and the answers and the list printed.
 ghost use mathlib.Core.Path.{_≡_};
 ghost use Prim.Native.Nat.{ℕ, _+_, _*_, _/_, _≤_, _<_};
-ghost use lib.ListN.{length};
-ghost use Rattle.stream.specs.Promise.{Ready};
+ghost use lib.ListN.{length, take};
+ghost use Rattle.stream.specs.Records.{kept, firstKept};
+ghost use Rattle.stream.specs.Promise.{Ready, ServedAll};
+ghost use Rattle.stream.specs.Input.{SoFar};
 use libc::STDIN_FILENO;
 use libc::STDOUT_FILENO;
 use stream::ending::list_kept;
+use stream::first::first_room;
+use stream::first::first_size;
+use stream::first::first_table;
 use stream::pieces::carry;
 use stream::pieces::serve;
 use stream::pieces::whole;
@@ -97,7 +102,7 @@ fn last_lines(corners: u64, entries: u64, left: u64) {
 // Reads behind the first `held` bytes. The result is how many there are then: as many as before where the input has ended.
 fn read_on(b: &mut [u8], held: usize) -> usize
     requires { ⌜ held ≤ length (now b) ⌝ }
-    ensures { λ r. ⌜ (held ≤ r) × (r ≤ length (now (b .exit))) ⌝ }
+    ensures { λ r. ⌜ (held ≤ r) × (r ≤ length (now (b .exit))) × (take held (now (b .exit)) ≡ take held (now (b .entry))) ⌝ }
 {
     let got = libc::read(STDIN_FILENO, &mut b[held..]);
     held + io::count(got, &b[held..])
@@ -115,7 +120,7 @@ fn serve_piece(
 ) -> Size
     requires { ⌜ Ready w h (now s) (now t) ⌝ }
     requires { ⌜ (n ≤ length (now b)) × (length (now b) ≡ 4096) × (length (now a) ≡ 4096) ⌝ }
-    ensures { λ r. ⌜ Ready (r .columns) (r .rows) (now (s .exit)) (now (t .exit)) ⌝ }
+    ensures { λ r. ⌜ ServedAll (take (8 * (n / 8)) (now (b .entry))) (kept w h (now (s .entry)) (now (t .entry))) (r .columns) (r .rows) (now (s .exit)) (now (t .exit)) (take (8 * (n / 8)) (now (a .exit))) ⌝ }
 {
     let m = whole(n);
     let z = serve(w, h, s, t, &b[..m], &mut a[..m]);
@@ -123,22 +128,24 @@ fn serve_piece(
     z
 }
 
-// The end of the output.
-fn finish(w: usize, h: usize, s: &[i16], t: &[u8], room: &mut [u8], left: usize)
+// The end of the output, after some reads; `left` has the bytes that are held then.
+fn finish(w: usize, h: usize, s: &[i16], t: &[u8], room: &mut [u8], left: &[u8])
+    requires { ⌜ SoFar w h (now s) (now t) (now left) ⌝ }
     requires { ⌜ Ready w h (now s) (now t) ⌝ }
     requires { ⌜ length (now room) ≡ 32768 ⌝ }
 {
     let l = list_kept(w, h, s, t, room);
     record_lines(room, l.entries, true);
-    last_lines(l.corners as u64, l.entries as u64, left as u64);
+    last_lines(l.corners as u64, l.entries as u64, left.len() as u64);
 }
 
-// Nothing says that the input ends, so the turns count down from a number that no run uses up.
+// From the first state on. Nothing says that the input ends, so the turns count down from a number that no run uses up.
 fn run(s: &mut [i16], t: &mut [u8], b: &mut [u8], a: &mut [u8], room: &mut [u8])
-    requires { ⌜ (length (now s) ≡ 4096) × (length (now t) ≡ 2048) × (length (now b) ≡ 4096) × (length (now a) ≡ 4096) × (length (now room) ≡ 32768) ⌝ }
+    requires { ⌜ (now s ≡ firstKept .room) × (now t ≡ firstKept .table) × (length (now b) ≡ 4096) × (length (now a) ≡ 4096) × (length (now room) ≡ 32768) ⌝ }
 {
-    let mut w = 0;
-    let mut h = 0;
+    let start = first_size();
+    let mut w = start.columns;
+    let mut h = start.rows;
     let mut held = 0;
     let mut turns = u64::MAX;
     while turns > 0 {
@@ -152,19 +159,7 @@ fn run(s: &mut [i16], t: &mut [u8], b: &mut [u8], a: &mut [u8], room: &mut [u8])
         held = carry(b, n);
         turns -= 1;
     }
-    finish(w, h, s, t, room, held);
-}
-
-fn weights() -> [i16; 4096]
-    ensures { λ r. ⌜ 4096 ≡ length r ⌝ }
-{
-    [0; 4096]
-}
-
-fn table() -> [u8; 2048]
-    ensures { λ r. ⌜ 2048 ≡ length r ⌝ }
-{
-    [0; 2048]
+    finish(w, h, s, t, room, &b[..held]);
 }
 
 fn list_room() -> [u8; 32768]
@@ -174,8 +169,8 @@ fn list_room() -> [u8; 32768]
 }
 
 fn main() {
-    let mut s = weights();
-    let mut t = table();
+    let mut s = first_room();
+    let mut t = first_table();
     let mut b = io::buffer();
     let mut a = io::buffer();
     let mut room = list_room();

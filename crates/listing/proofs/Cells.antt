@@ -1,27 +1,33 @@
 -- What the weights of a standing surface tell of a row: heights, support, and how far an occupied run goes on. Assumes nothing.
-use mathlib.Core.Path.{_≡_, refl, sym, ap, _∙_, subst}
-use mathlib.Core.Bool.{Bool, true, false, not, cond, _&&_, _||_}
-use mathlib.Core.Logic.{_⊎_, inl, inr, ⊎-elim}
+use mathlib.Core.Path.{_≡_, refl, sym, ap, _∙_}
+use mathlib.Core.Bool.{Bool, true, false, not, cond, _&&_}
+use mathlib.Core.Logic.{⊎-elim}
 use mathlib.Core.List.{List}
 use Prim.Native.Nat.{ℕ, zero, suc, _+_, _-_, _*_, _≤_, _<_}
 use native.Mathlib.Nat.{le-refl, mul-comm, mul-le-mul}
 use native.Mathlib.Omega.{arith}
 use lib.Arith.{digits-lt}
-use lib.Dec.{leb, ltb, eqb}
+use lib.Dec.{ltb, eqb}
 use lib.IntN.{ℤ, pos, negsuc, negℤ}
 use lib.ListN.{length}
 use lib.Signed.{ltZ}
-use borrow.Author.Tests.{lt-ltb, le-ltb, leb-true, le-leb, eqb-false, not-true}
-use Rattle.rules.specs.Tests.{every, eqZ}
-use Rattle.rules.specs.Surface.{rect, covers, slots, byte, idOf, rectOf, spareZero, usedSlot, freeSlot, holds, occupied, holder, upwards, remaining, weight, cell, soundSlot, slotsSound, Standing}
+use borrow.Author.Tests.{lt-ltb, le-ltb, le-leb, eqb-false, not-true}
+use Rattle.rules.specs.Tests.{eqZ}
+use Rattle.rules.specs.Surface.{covers, slots, rectOf, holds, occupied, holder, upwards, number, weight, cell, Standing}
 use Rattle.rules.specs.declared.Rect.{Rect}
-use Rattle.rules.proofs.Tests.{and-left, and-right, and-both, four-and, or-which, not-both, every-at, any-yes}
-use Rattle.meaning.proofs.Weights.{upwards-le, upwards-pos, Within, covers-within, holds-covers, holds-used, holder-low, holder-holds, weight-occupied, weight-empty, stands-cell, stands-slots}
+use Rattle.rules.proofs.Tests.{and-both, four-and, any-yes, decide, lt-or-le}
+use Rattle.meaning.proofs.Weights.{upwards-le, upwards-pos, Within, covers-within, holds-covers, holds-used, holder-low, holder-holds, number-at, weight-number, weight-occupied, weight-empty, stands-cell, stands-slots}
+use Rattle.meaning.proofs.Stands.{sound-told, slots-told}
 use Rattle.cells.specs.Weight.{takenZ, countOf, widthOf}
 use Rattle.listing.specs.Row.{rows}
 use Rattle.listing.specs.Listed.{heightOf, support, entriesIn, Strides}
-use Rattle.listing.proofs.Stairs.{cmp}
-use Rattle.listing.proofs.Walks.{written-le}
+use Rattle.listing.proofs.StairLaws.{entries-le}
+use Rattle.listing.proofs.Walks.{written-length}
+
+-- not 0 is more than 0
+pub positive : (v : ℕ) → (v ≡ 0 → ⊥) → 0 < v
+positive zero n = absurd (n refl)
+positive (suc v) n = omega arith
 
 -- an occupied cell counts nothing
 pub upwards-none : (occ : ℕ → ℕ → Bool) (x y : ℕ) → occ x y ≡ true → upwards occ x y ≡ 0
@@ -40,15 +46,11 @@ module _ (occ : ℕ → ℕ → Bool) (W y x : ℕ) where
   unfolding heightOf
   height-past p = rw (le-ltb x W p)
 
-  -- a height stands in a column
-  pub height-column : (heightOf occ W y x ≡ 0 → ⊥) → x < W
-  height-column n = ⊎-elim (λ (p : x < W). p) (λ (p : W ≤ x). absurd (n (height-past p))) (cmp x W)
-
   pub height-taken : occ x y ≡ true → heightOf occ W y x ≡ 0
-  height-taken e = ⊎-elim (λ (p : x < W). height-in p ∙ upwards-none occ x y e) (λ (p : W ≤ x). height-past p) (cmp x W)
+  height-taken e = ⊎-elim (λ (p : x < W). height-in p ∙ upwards-none occ x y e) (λ (p : W ≤ x). height-past p) (lt-or-le x W)
 
   pub height-low : heightOf occ W y x ≤ suc y
-  height-low = ⊎-elim (λ (p : x < W). omega (arith, height-in p, upwards-le occ x y)) (λ (p : W ≤ x). omega (arith, height-past p)) (cmp x W)
+  height-low = ⊎-elim (λ (p : x < W). omega (arith, height-in p, upwards-le occ x y)) (λ (p : W ≤ x). omega (arith, height-past p)) (lt-or-le x W)
 
   -- no height, no support
   pub unheld : (H : ℕ) → heightOf occ W y x ≡ 0 → support occ W H y x ≡ false
@@ -57,11 +59,7 @@ module _ (occ : ℕ → ℕ → Bool) (W y x : ℕ) where
 
   pub held-by : (H : ℕ) → (heightOf occ W y x ≡ 0 → ⊥) → support occ W H y x ≡ cond (ltb (suc y) H) (occ x (suc y)) true
   unfolding support
-  held-by H n = rw (lt-ltb 0 (heightOf occ W y x) (pos-of (heightOf occ W y x) n))
-    where
-      pos-of : (v : ℕ) → (v ≡ 0 → ⊥) → 0 < v
-      pos-of zero n = absurd (n refl)
-      pos-of (suc v) n = omega arith
+  held-by H n = rw (lt-ltb 0 (heightOf occ W y x) (positive (heightOf occ W y x) n))
 
 -- a cell that does not stay at u but has that height is occupied
 pub stays-not : (b : Bool) (a u : ℕ) → (not b && eqb a u) ≡ false → a ≡ u → b ≡ true
@@ -74,52 +72,42 @@ open-high W t x y p e z = omega (arith, height-in (occupied t) W y x p, upwards-
 
 -- a cell without one is occupied
 pub none-taken : (W : ℕ) (t : List ℕ) (x y : ℕ) → x < W → heightOf (occupied t) W y x ≡ 0 → occupied t x y ≡ true
-none-taken W t x y p z = go (occupied t x y) refl
-  where
-    go : (b : Bool) → occupied t x y ≡ b → b ≡ true
-    go true e = refl
-    go false e = absurd (open-high W t x y p e z)
+none-taken W t x y p z = ⊎-elim (λ e. e) (λ e. absurd (open-high W t x y p e z)) (decide (occupied t x y))
 
 module _ (W H : ℕ) (s : List ℤ) (t : List ℕ) (S : Standing W H s t) (x y : ℕ) (px : x < W) (py : y < H) where
   -- the cell's number
   pub number-in : (y * W + x < length s) × (y * W + x < 64 * 64)
-  number-in = let d = digits-lt py px in (omega (arith, mul-comm W H, S .long), omega (arith, mul-comm W H, mul-le-mul (S .widest) (S .highest)))
+  number-in = let d = digits-lt py px in (omega (arith, mul-comm W H, S .long), omega (arith, mul-comm W H, mul-le-mul (S .sides .widest) (S .sides .highest)))
 
   is : cell W s x y ≡ weight t x y
   is = stands-cell W H s t (S .sound) x y px py
 
+  -- what the weight tells: it is negative where the cell is occupied, and the height where it is empty
+  by-weight : {A : Type 0} (g : ℤ → A) (a : A) → ((k : ℕ) → occupied t x y ≡ true → g (negsuc k) ≡ a) → (occupied t x y ≡ false → g (pos (heightOf (occupied t) W y x)) ≡ a) → g (cell W s x y) ≡ a
+  by-weight g a p q =
+      ⊎-elim
+      (λ e. let n = weight-occupied t x y e in ap g (is ∙ n .1) ∙ p (n .0) e)
+      (λ e. ap g (is ∙ weight-empty t x y e ∙ ap pos (sym (height-in (occupied t) W y x px))) ∙ q e)
+      (decide (occupied t x y))
+
   pub taken-is : takenZ (cell W s x y) ≡ occupied t x y
-  taken-is = go (occupied t x y) refl
-    where
-      go : (b : Bool) → occupied t x y ≡ b → takenZ (cell W s x y) ≡ b
-      go true e = ap takenZ (is ∙ weight-occupied t x y e .1)
-      go false e = ap takenZ (is ∙ weight-empty t x y e)
+  taken-is = by-weight takenZ (occupied t x y) (λ k e. sym e) (λ e. sym e)
 
   pub count-is : countOf (cell W s x y) ≡ heightOf (occupied t) W y x
-  count-is = go (occupied t x y) refl ∙ sym (height-in (occupied t) W y x px)
-    where
-      go : (b : Bool) → occupied t x y ≡ b → countOf (cell W s x y) ≡ upwards (occupied t) x y
-      go true e = ap countOf (is ∙ weight-occupied t x y e .1) ∙ sym (upwards-none (occupied t) x y e)
-      go false e = ap countOf (is ∙ weight-empty t x y e)
+  count-is = by-weight countOf (heightOf (occupied t) W y x) (λ k e. sym (height-taken (occupied t) W y x e)) (λ e. refl)
 
   -- the cell is empty and has the height u
   pub stays-is : (u : ℕ) → eqZ (cell W s x y) (pos u) ≡ (not (occupied t x y) && eqb (heightOf (occupied t) W y x) u)
-  stays-is u = go (occupied t x y) refl
-    where
-      go : (b : Bool) → occupied t x y ≡ b → eqZ (cell W s x y) (pos u) ≡ (not b && eqb (heightOf (occupied t) W y x) u)
-      go true e = ap (λ z. eqZ z (pos u)) (is ∙ weight-occupied t x y e .1)
-      go false e = ap (λ z. eqZ z (pos u)) (is ∙ weight-empty t x y e) ∙ ap (λ n. eqb n u) (sym (height-in (occupied t) W y x px))
+  stays-is u = by-weight (λ z. eqZ z (pos u)) (not (occupied t x y) && eqb (heightOf (occupied t) W y x) u) (λ k e. rw e) (λ e. rw e)
 
   -- it has more than the height u
   pub rises-is : (u : ℕ) → ltZ (pos u) (cell W s x y) ≡ ltb u (heightOf (occupied t) W y x)
-  rises-is u = go (occupied t x y) refl
-    where
-      go : (b : Bool) → occupied t x y ≡ b → ltZ (pos u) (cell W s x y) ≡ ltb u (heightOf (occupied t) W y x)
-      go true e = ap (ltZ (pos u)) (is ∙ weight-occupied t x y e .1) ∙ sym (le-ltb u (heightOf (occupied t) W y x) (omega (arith, height-taken (occupied t) W y x e)))
-      go false e = ap (ltZ (pos u)) (is ∙ weight-empty t x y e) ∙ ap (ltb u) (sym (height-in (occupied t) W y x px))
+  rises-is u =
+      by-weight (ltZ (pos u)) (ltb u (heightOf (occupied t) W y x))
+      (λ k e. sym (le-ltb u (heightOf (occupied t) W y x) (omega (arith, height-taken (occupied t) W y x e)))) (λ e. refl)
 
   pub count-low : countOf (cell W s x y) ≤ 64
-  count-low = omega (arith, count-is, height-in (occupied t) W y x px, upwards-le (occupied t) x y, S .highest)
+  count-low = omega (arith, count-is, height-in (occupied t) W y x px, upwards-le (occupied t) x y, S .sides .highest)
 
   -- the holder's module, on the surface
   module _ (e : occupied t x y ≡ true) where
@@ -133,21 +121,14 @@ module _ (W H : ℕ) (s : List ℤ) (t : List ℕ) (S : Standing W H s t) (x y :
     in-module = covers-within r x y (holds-covers t x y i (holder-holds t x y e))
 
     on-surface : r .x + r .w ≤ W
-    unfolding slotsSound soundSlot
     on-surface =
-        let sound = every-at (slots t) (λ i. freeSlot t i || soundSlot W H t i) (stands-slots W H s t (S .sound)) i (holder-low t x y e) in
-        let used = holds-used t x y i (holder-holds t x y e) in
-        ⊎-elim
-        (λ (f : freeSlot t i ≡ true). not-both (freeSlot t i) f (not-true _ used))
-        (λ (g : soundSlot W H t i ≡ true).
-        let g1 = and-left (leb 1 (idOf t i) && leb 1 (r .w) && leb 1 (r .h) && leb (r .x + r .w) W && leb (r .y + r .h) H) (spareZero t i) g in
-        let g2 = and-left (leb 1 (idOf t i) && leb 1 (r .w) && leb 1 (r .h) && leb (r .x + r .w) W) (leb (r .y + r .h) H) g1 in
-        leb-true _ _ (and-right (leb 1 (idOf t i) && leb 1 (r .w) && leb 1 (r .h)) (leb (r .x + r .w) W) g2))
-        (or-which (freeSlot t i) (soundSlot W H t i) sound)
+        let used = not-true _ (holds-used t x y i (holder-holds t x y e)) in
+        sound-told W H t i (slots-told W H t (stands-slots W H s t (S .sound)) i (holder-low t x y e) used) .place .columns
 
+    -- the walk skips by the number: it is the width that remains
     width-is : widthOf (cell W s x y) ≡ r .x + r .w - x
-    unfolding weight remaining
-    width-is = ap widthOf is ∙ rw e (width-neg (r .x + r .w - x) (omega (arith, in-module .right)))
+    unfolding number
+    width-is = ap widthOf (is ∙ weight-number t x y e) ∙ width-neg (number i r x) (number-at t x y e)
       where
         width-neg : (n : ℕ) → 1 ≤ n → widthOf (negℤ (pos n)) ≡ n
         width-neg zero h = absurd (omega arith)
@@ -173,4 +154,4 @@ module _ (W H : ℕ) (s : List ℤ) (t : List ℕ) (S : Standing W H s t) (x y :
 -- a row's buffers hold no more than W entries
 pub row-few : (occ : ℕ → ℕ → Bool) (W H y : ℕ) (ls rs es : List ℕ) (m : ℕ) → rows ls rs es m ≡ entriesIn occ W H y → m ≤ W
 unfolding entriesIn
-row-few occ W H y ls rs es m q = written-le (heightOf occ W y) (support occ W H y) W ls rs es m q
+row-few occ W H y ls rs es m q = omega (arith, entries-le (heightOf occ W y) (support occ W H y) W, written-length _ ls rs es m q)

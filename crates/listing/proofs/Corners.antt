@@ -1,24 +1,22 @@
 -- Corners of a scanned row by its heights: a cell is a corner exactly when the next height is smaller. Assumes nothing.
-use mathlib.Core.Path.{_≡_, refl, sym, ap, ap₂, _∙_, subst}
-use mathlib.Core.Bool.{Bool, true, false, not, cond, _&&_, _||_}
-use mathlib.Core.Logic.{_⊎_, inl, inr, ⊎-elim}
+use mathlib.Core.Path.{_≡_, refl, sym, ap, ap₂, _∙_}
+use mathlib.Core.Bool.{Bool, true, false, cond, and-false}
+use mathlib.Core.Logic.{⊎-elim}
 use mathlib.Core.List.{List}
-use Prim.Native.Nat.{ℕ, zero, suc, _+_, _-_, _≤_, _<_}
+use Prim.Native.Nat.{ℕ, zero, suc, _+_, _≤_, _<_}
 use native.Mathlib.Nat.{le-refl, eq-or-lt-of-le}
 use native.Mathlib.Numerals.{add-one}
 use native.Mathlib.Omega.{arith}
-use lib.Dec.{ltb, eqb}
-use lib.IntN.{pos, negsuc}
+use lib.Dec.{ltb}
 use lib.Signed.{ltZ}
 use borrow.Author.Tests.{lt-ltb, le-ltb, eq-eqb, ne-eqb}
 use Rattle.rules.specs.Tests.{total, count}
-use Rattle.rules.specs.Surface.{occupied, upwards, weight}
+use Rattle.rules.specs.Surface.{occupied, weight}
 use Rattle.rules.specs.Empties.{scanned, corner}
-use Rattle.rules.proofs.Tests.{total-same}
+use Rattle.rules.proofs.Tests.{total-same, decide}
 use Rattle.meaning.proofs.Weights.{weight-occupied, weight-empty, upwards-pos}
 use Rattle.listing.specs.Row.{before, turns}
 use Rattle.listing.specs.Listed.{heightOf}
-use Rattle.listing.proofs.Stairs.{cmp}
 use Rattle.listing.proofs.Cells.{height-in, height-past, height-taken}
 
 -- ---- a cell of a scanned row
@@ -33,39 +31,39 @@ module _ (W H : ℕ) (t : List ℕ) (y : ℕ) (s : scanned H t y ≡ true) where
 
   -- the right neighbour
   neighbour : (x : ℕ) → suc x < W → occupied t x y ≡ false → ltZ (weight t (suc x) y) (weight t x y) ≡ ltb (f (suc x)) (f x)
-  neighbour x p e = go (occupied t (suc x) y) refl
-    where
-      go : (b : Bool) → occupied t (suc x) y ≡ b → ltZ (weight t (suc x) y) (weight t x y) ≡ ltb (f (suc x)) (f x)
-      go true q =
-          ap₂ ltZ (weight-occupied t (suc x) y q .1) (weight-empty t x y e)
-          ∙ sym (lt-ltb (f (suc x)) (f x) (omega (arith, height-taken (occupied t) W y (suc x) q, high x (omega arith) e)))
-      go false q =
-          ap₂ ltZ (weight-empty t (suc x) y q) (weight-empty t x y e)
-          ∙ ap₂ ltb (sym (height-in (occupied t) W y (suc x) p)) (sym (height-in (occupied t) W y x (omega arith)))
+  neighbour x p e =
+      ⊎-elim
+      (λ (q : occupied t (suc x) y ≡ true).
+      ap₂ ltZ (weight-occupied t (suc x) y q .1) (weight-empty t x y e)
+      ∙ sym (lt-ltb (f (suc x)) (f x) (omega (arith, height-taken (occupied t) W y (suc x) q, high x (omega arith) e))))
+      (λ (q : occupied t (suc x) y ≡ false).
+      ap₂ ltZ (weight-empty t (suc x) y q) (weight-empty t x y e)
+      ∙ ap₂ ltb (sym (height-in (occupied t) W y (suc x) p)) (sym (height-in (occupied t) W y x (omega arith))))
+      (decide (occupied t (suc x) y))
 
   -- A CELL IS A CORNER EXACTLY WHEN THE NEXT HEIGHT IS SMALLER
   pub corner-is : (x : ℕ) → x < W → corner W H t x y ≡ ltb (f (suc x)) (f x)
   unfolding corner
-  corner-is x p = go (occupied t x y) refl
-    where
-      go : (b : Bool) → occupied t x y ≡ b → (not (occupied t x y) && scanned H t y && (eqb (suc x) W || ltZ (weight t (suc x) y) (weight t x y))) ≡ ltb (f (suc x)) (f x)
-      go true e = rw e (sym (le-ltb (f (suc x)) (f x) (omega (arith, height-taken (occupied t) W y x e))))
-      go false e =
-          ⊎-elim
-          (λ (q : suc x ≡ W). rw (e, s, eq-eqb (suc x) W q) (sym (lt-ltb (f (suc x)) (f x) (omega (arith, height-past (occupied t) W y (suc x) (omega arith), high x p e)))))
-          (λ (q : suc x < W). rw (e, s, ne-eqb (suc x) W (λ z. omega arith)) (neighbour x q e))
-          (eq-or-lt-of-le p)
+  corner-is x p =
+      ⊎-elim
+      (λ (e : occupied t x y ≡ true). rw e (sym (le-ltb (f (suc x)) (f x) (omega (arith, height-taken (occupied t) W y x e)))))
+      (λ (e : occupied t x y ≡ false).
+      ⊎-elim
+      (λ (q : suc x ≡ W). rw (e, s, eq-eqb (suc x) W q) (sym (lt-ltb (f (suc x)) (f x) (omega (arith, height-past (occupied t) W y (suc x) (omega arith), high x p e)))))
+      (λ (q : suc x < W). rw (e, s, ne-eqb (suc x) W (λ z. omega arith)) (neighbour x q e))
+      (eq-or-lt-of-le p))
+      (decide (occupied t x y))
 
 -- ---- as many as the heights that are smaller than the one before
+
+pub one-or-none : (b : Bool) → cond b 1 0 ≤ 1
+one-or-none true = le-refl 1
+one-or-none false = omega arith
 
 pub turns-le : (f : ℕ → ℕ) (x : ℕ) → turns f x ≤ x
 unfolding turns
 turns-le f zero = le-refl 0
-turns-le f (suc x) = go (ltb (f x) (before f x)) (turns-le f x)
-  where
-    go : (b : Bool) → turns f x ≤ x → turns f x + cond b 1 0 ≤ suc x
-    go true h = omega arith
-    go false h = omega arith
+turns-le f (suc x) = omega (arith, turns-le f x, one-or-none (ltb (f x) (before f x)))
 
 turns-count : (f : ℕ → ℕ) (w : ℕ) → turns f (suc w) ≡ count w (λ x. ltb (f (suc x)) (f x))
 unfolding turns total before
@@ -78,28 +76,12 @@ turns-corners W H t y n s e =
     e ∙ ap (turns (heightOf (occupied t) W y)) (add-one W) ∙ turns-count (heightOf (occupied t) W y) W
     ∙ total-same W _ _ (λ k p. ap (λ b. cond b 1 0) (sym (corner-is W H t y s k p)))
 
-pub one-or-none : (b : Bool) → cond b 1 0 ≤ 1
-one-or-none true = le-refl 1
-one-or-none false = omega arith
-
-count-none : (n : ℕ) (p : ℕ → Bool) → ((k : ℕ) → p k ≡ false) → count n p ≡ 0
+none-total : (n : ℕ) → total n (λ k. 0) ≡ 0
 unfolding total
-count-none zero p h = refl
-count-none (suc n) p h = rw (h n, count-none n p h)
+none-total zero = refl
+none-total (suc n) = omega (arith, none-total n)
 
 -- A ROW THAT IS NOT SCANNED HAS NO CORNER
 pub no-corner : (W H : ℕ) (t : List ℕ) (y : ℕ) → scanned H t y ≡ false → count W (λ x. corner W H t x y) ≡ 0
 unfolding corner
-no-corner W H t y s =
-    count-none W (λ x. corner W H t x y)
-    (λ x. rw s (both (not (occupied t x y)) (eqb (suc x) W || ltZ (weight t (suc x) y) (weight t x y))))
-  where
-    both : (a b : Bool) → (a && false && b) ≡ false
-    both true b = refl
-    both false b = refl
-
--- at most one for each column
-pub count-le : (n : ℕ) (p : ℕ → Bool) → count n p ≤ n
-unfolding total
-count-le zero p = le-refl 0
-count-le (suc n) p = omega (arith, count-le n p, one-or-none (p n))
+no-corner W H t y s = total-same W _ (λ x. 0) (λ x l. rw (s, and-false)) ∙ none-total W

@@ -1,8 +1,8 @@
 -- Entries and corners counted row after row. Assumes nothing.
 use mathlib.Core.Path.{_≡_, refl, sym, ap, ap₂, _∙_}
 use mathlib.Core.Bool.{true, false}
-use mathlib.Core.List.{List, []}
-use Prim.Native.Nat.{ℕ, suc, _+_, _*_, _≤_, _<_}
+use mathlib.Core.List.{List}
+use Prim.Native.Nat.{ℕ, _+_, _*_, _≤_, _<_}
 use native.Mathlib.Nat.{mul-le-mul}
 use native.Mathlib.Numerals.{add-one}
 use native.Mathlib.Omega.{arith}
@@ -16,7 +16,7 @@ use Rattle.rules.specs.Calls.{roomAfter}
 use Rattle.meaning.proofs.Bound.{entries-few}
 use Rattle.meaning.proofs.Corners.{corners-few}
 use Rattle.listing.specs.Listed.{rectsIn, listed, listedResult, listedRoom}
-use Rattle.listing.proofs.List.{entries-listed}
+use Rattle.listing.proofs.ListLaws.{entries-listed}
 use Rattle.listing.proofs.Written.{listed-none, listed-grows}
 
 -- the entries of the rows above y are counted, and their corners
@@ -56,7 +56,7 @@ module _ (W H : ℕ) (t : List ℕ) where
 -- both counts are at most 64·64
 pub counts-low : {W H : ℕ} {s : List ℤ} {t : List ℕ} → Standing W H s t → (length (entries (occupied t) W H) ≤ 64 * 64) × (corners W H t ≤ 64 * 64)
 counts-low {W} {H} {s} {t} S =
-    let a = mul-le-mul (S .widest) (S .highest) in
+    let a = mul-le-mul (S .sides .widest) (S .sides .highest) in
     (omega (arith, entries-few (occupied t) W H), omega (arith, corners-few W H t))
 
 -- ---- the answer of a listing

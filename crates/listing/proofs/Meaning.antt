@@ -1,21 +1,20 @@
--- The list of rowEntries has exactly the rowEntries, each once, in order. Assumes nothing.
+-- The list of a row has exactly its entries, each once, in order. Assumes nothing.
 use mathlib.Core.Path.{_≡_, refl, ap, _∙_}
 use mathlib.Core.Logic.{_⊎_, inl, inr, ⊎-elim, _↔_}
-use mathlib.Core.Bool.{Bool, true, false, _&&_, _||_, or-true, false≢true}
-use mathlib.Core.List.{List, [], _∷_, _++_, List·Memᴰ, List·Memᴰ·head, List·Memᴰ·tail, List·Memᴰ·not-nil, List·Memᴰ·cases-cons, List·Memᴰ·append-cases, Memᴰ·append-left, Memᴰ·append-right, Memᴰ·of-map, map}
-use Prim.Native.Nat.{ℕ, zero, suc, _+_, _-_, _≤_, _<_, min}
+use mathlib.Core.Bool.{Bool, true, false, _&&_, or-true, false≢true}
+use mathlib.Core.List.{List, [], _∷_, List·Memᴰ, List·Memᴰ·head, List·Memᴰ·tail, List·Memᴰ·not-nil, List·Memᴰ·cases-cons, Memᴰ·of-map, map, _++_}
+use Prim.Native.Nat.{ℕ, zero, suc, _+_, _-_, _≤_, _<_}
 use native.Mathlib.Nat.{le-refl, eq-or-lt-of-le}
 use native.Mathlib.Numerals.{add-one, sub-one}
 use native.Mathlib.Omega.{arith}
 use lib.Dec.{ltb}
 use borrow.Author.Tests.{ltb-true, lt-ltb}
-use Rattle.rules.specs.Tests.{put}
+use Rattle.rules.specs.Tests.{put, chain}
 use Rattle.listing.specs.Row.{Entry, least, before, some, fromLeft, rowEntries, entriesAt}
 use Rattle.rules.specs.Empties.{Ordered}
-use Rattle.rules.proofs.Tests.{and-left, and-right}
-use Rattle.meaning.proofs.Order.{ordered-append}
-use Rattle.listing.specs.Meaning.{Cell, IsLeast, IsEntry, Before}
-use Rattle.listing.proofs.Stairs.{cmp}
+use Rattle.rules.proofs.Tests.{lt-or-le, and-left, and-right, or-which, chain-mem, mem-chain}
+use Rattle.meaning.proofs.Order.{ordered-chain}
+use Rattle.listing.specs.Meaning.{Cell, IsEntry, Before}
 
 -- ---- the least, and support
 
@@ -31,32 +30,21 @@ least-le f l (suc k) c p q =
 pub least-met : (f : ℕ → ℕ) (l k : ℕ) → Cell l (l + k) (λ c. f c ≡ least f l k)
 unfolding least
 least-met f l zero = record { cell = l; from = le-refl l; upto = omega arith; has = refl }
-least-met f l (suc k) = go (least-met f (suc l) k) (cmp (f l) (least f (suc l) k))
-  where
-    go : Cell (suc l) (suc l + k) (λ c. f c ≡ least f (suc l) k) → (f l < least f (suc l) k) ⊎ (least f (suc l) k ≤ f l)
-        → Cell l (l + suc k) (λ c. f c ≡ min (f l) (least f (suc l) k))
-    go c (inl h) = record { cell = l; from = le-refl l; upto = omega arith; has = omega arith }
-    go c (inr h) = record { cell = c .cell; from = omega (arith, c .from); upto = omega (arith, c .upto); has = omega (arith, c .has) }
-
--- h is the least exactly if it is `least`
-pub least-is : (f : ℕ → ℕ) (l k : ℕ) → IsLeast f l (l + k) (least f l k)
-least-is f l k = record { below = least-le f l k; met = least-met f l k }
-
-pub is-least : (f : ℕ → ℕ) (l k h : ℕ) → IsLeast f l (l + k) h → h ≡ least f l k
-is-least f l k h p =
-    let m = least-met f l k in
-    let c = p .met in
-    omega (arith, p .below (m .cell) (m .from) (m .upto), m .has, least-le f l k (c .cell) (c .from) (c .upto), c .has)
+least-met f l (suc k) =
+    let c = least-met f (suc l) k in
+    ⊎-elim
+    (λ (h : f l < least f (suc l) k). record { cell = l; from = le-refl l; upto = omega arith; has = omega arith })
+    (λ (h : least f (suc l) k ≤ f l). record { cell = c .cell; from = omega (arith, c .from); upto = omega (arith, c .upto); has = omega (arith, c .has) })
+    (lt-or-le (f l) (least f (suc l) k))
 
 pub some-held : (b : ℕ → Bool) (l k : ℕ) → some b l k ≡ true → Cell l (l + k) (λ c. b c ≡ true)
 unfolding some
 some-held b l zero e = record { cell = l; from = le-refl l; upto = omega arith; has = e }
-some-held b l (suc k) e = go (some b l k) refl e (some-held b l k)
-  where
-    go : (t : Bool) → some b l k ≡ t → (t || b (l + suc k)) ≡ true → (some b l k ≡ true → Cell l (l + k) (λ c. b c ≡ true))
-        → Cell l (l + suc k) (λ c. b c ≡ true)
-    go true s q ih = let c = ih s in record { cell = c .cell; from = c .from; upto = omega (arith, c .upto); has = c .has }
-    go false s q ih = record { cell = l + suc k; from = omega arith; upto = le-refl _; has = q }
+some-held b l (suc k) e =
+    ⊎-elim
+    (λ s. let c = some-held b l k s in record { cell = c .cell; from = c .from; upto = omega (arith, c .upto); has = c .has })
+    (λ q. record { cell = l + suc k; from = omega arith; upto = le-refl _; has = q })
+    (or-which (some b l k) (b (l + suc k)) e)
 
 pub held-some : (b : ℕ → Bool) (l k c : ℕ) → l ≤ c → c ≤ l + k → b c ≡ true → some b l k ≡ true
 unfolding some
@@ -81,25 +69,9 @@ keep-head : {A : Type 0} {a : A} (c : Bool) (x : A) (t : List A) → c ≡ true 
 keep-head true x t e q = List·Memᴰ·head q
 keep-head false x t e q = absurd (false≢true e)
 
--- the test at a left cell, as facts
-pub record Hit (f : ℕ → ℕ) (b : ℕ → Bool) (r l k : ℕ) : Type 0 where
-  pub steps-up : before f l < least f l k
-  pub steps-down : f (suc r) < least f l k
-  pub has-support : some b l k ≡ true
-
-test-hit : (f : ℕ → ℕ) (b : ℕ → Bool) (r l k : ℕ)
-    → (ltb (before f l) (least f l k) && (ltb (f (suc r)) (least f l k) && some b l k)) ≡ true → Hit f b r l k
-test-hit f b r l k e =
-    let rest = and-right (ltb (before f l) (least f l k)) (ltb (f (suc r)) (least f l k) && some b l k) e in
-    record {
-      steps-up = ltb-true _ _ (and-left (ltb (before f l) (least f l k)) _ e);
-      steps-down = ltb-true _ _ (and-left (ltb (f (suc r)) (least f l k)) (some b l k) rest);
-      has-support = and-right (ltb (f (suc r)) (least f l k)) (some b l k) rest;
-    }
-
-hit-test : (f : ℕ → ℕ) (b : ℕ → Bool) (r l k : ℕ) → Hit f b r l k
-    → (ltb (before f l) (least f l k) && (ltb (f (suc r)) (least f l k) && some b l k)) ≡ true
-hit-test f b r l k h = rw (lt-ltb _ _ (h .steps-up), lt-ltb _ _ (h .steps-down), h .has-support)
+-- the test at a left cell: the height steps up to it, down behind the right cell, and there is support
+abbrev pub hits : (ℕ → ℕ) → (ℕ → Bool) → ℕ → ℕ → ℕ → Bool
+hits f b r l k = ltb (before f l) (least f l k) && (ltb (f (suc r)) (least f l k) && some b l k)
 
 -- what the list for the right cell r holds from l on
 pub record Found (f : ℕ → ℕ) (b : ℕ → Bool) (r l : ℕ) (e : Entry) : Type 0 where
@@ -107,7 +79,7 @@ pub record Found (f : ℕ → ℕ) (b : ℕ → Bool) (r l : ℕ) (e : Entry) : 
   pub more : ℕ
   pub from : l ≤ start
   pub ends : start + more ≡ r
-  pub hit : Hit f b r start more
+  pub hit : hits f b r start more ≡ true
   pub is : e ≡ record { left = start; right = r; high = least f start more }
 
 from-found : (f : ℕ → ℕ) (b : ℕ → Bool) (r l n : ℕ) (e : Entry) → l + n ≡ suc r → List·Memᴰ e (fromLeft f b r l n) → Found f b r l e
@@ -115,9 +87,9 @@ unfolding fromLeft
 from-found f b r l zero e q m = absurd (List·Memᴰ·not-nil m)
 from-found f b r l (suc k) e q m =
     ⊎-elim
-    (λ p. record { start = l; more = k; from = le-refl l; ends = omega arith; hit = test-hit f b r l k (p .0); is = p .1 })
+    (λ p. record { start = l; more = k; from = le-refl l; ends = omega arith; hit = p .0; is = p .1 })
     (λ p. let g = from-found f b r (suc l) k e (omega arith) p in record { start = g .start; more = g .more; from = omega (arith, g .from); ends = g .ends; hit = g .hit; is = g .is })
-    (mem-keep (ltb (before f l) (least f l k) && (ltb (f (suc r)) (least f l k) && some b l k)) m)
+    (mem-keep (hits f b r l k) m)
 
 found-from : (f : ℕ → ℕ) (b : ℕ → Bool) (r l n : ℕ) (e : Entry) → l + n ≡ suc r → Found f b r l e → List·Memᴰ e (fromLeft f b r l n)
 unfolding fromLeft
@@ -126,36 +98,17 @@ found-from f b r l (suc k) e q g =
     ⊎-elim
     (λ (p : l ≡ g .start).
     let t : k ≡ g .more = omega (arith, g .ends) in
-    keep-head (ltb (before f l) (least f l k) && (ltb (f (suc r)) (least f l k) && some b l k)) _ _
-    (hit-test f b r l k (rw (p, t) (g .hit))) (g .is ∙ rw (p, t)))
+    keep-head (hits f b r l k) _ _ (rw (p, t) (g .hit)) (g .is ∙ rw (p, t)))
     (λ (p : l < g .start).
-    keep-mem (ltb (before f l) (least f l k) && (ltb (f (suc r)) (least f l k) && some b l k)) _
+    keep-mem (hits f b r l k) _
     (found-from f b r (suc l) k e (omega arith) (record { start = g .start; more = g .more; from = p; ends = g .ends; hit = g .hit; is = g .is })))
     (eq-or-lt-of-le (g .from))
 
--- an entry in the list of a row stands in the list for its right cell
-pub record Listed (f : ℕ → ℕ) (b : ℕ → Bool) (w : ℕ) (e : Entry) : Type 0 where
-  pub at-right : ℕ
-  pub within : at-right < w
-  pub found : Found f b at-right 0 e
-
-entries-listed : (f : ℕ → ℕ) (b : ℕ → Bool) (w : ℕ) (e : Entry) → List·Memᴰ e (rowEntries f b w) → Listed f b w e
-unfolding rowEntries
-entries-listed f b zero e m = absurd (List·Memᴰ·not-nil m)
-entries-listed f b (suc r) e m =
-    ⊎-elim
-    (λ p. let g = entries-listed f b r e p in record { at-right = g .at-right; within = omega (arith, g .within); found = g .found })
-    (λ p. record { at-right = r; within = le-refl (suc r); found = from-found f b r 0 (suc r) e (omega arith) p })
-    (List·Memᴰ·append-cases (rowEntries f b r) m)
-
-listed-entries : (f : ℕ → ℕ) (b : ℕ → Bool) (w r : ℕ) (e : Entry) → r < w → Found f b r 0 e → List·Memᴰ e (rowEntries f b w)
-unfolding rowEntries
-listed-entries f b zero r e h g = absurd (omega arith)
-listed-entries f b (suc w) r e h g =
-    ⊎-elim
-    (λ (p : suc r ≡ suc w). let q : r ≡ w = omega arith in Memᴰ·append-right (rowEntries f b w) (found-from f b w 0 (suc w) e (omega arith) (rw q at g)))
-    (λ (p : suc r < suc w). Memᴰ·append-left (entriesAt f b w) (listed-entries f b w r e (omega arith) g))
-    (eq-or-lt-of-le h)
+-- the list of a row is the lists for its right cells one behind the other
+by-right : (f : ℕ → ℕ) (b : ℕ → Bool) (w : ℕ) → rowEntries f b w ≡ chain w (entriesAt f b)
+unfolding rowEntries chain
+by-right f b zero = refl
+by-right f b (suc r) = ap (λ l. l ++ entriesAt f b r) (by-right f b r)
 
 -- ---- the meaning
 
@@ -175,14 +128,16 @@ module _ (f : ℕ → ℕ) (b : ℕ → Bool) (w : ℕ) (edge : f w ≡ 0) where
   found-is r e h g =
       let k = g .more in
       let l = g .start in
+      let up : before f l < least f l k = ltb-true _ _ (and-left (ltb (before f l) (least f l k)) _ (g .hit)) in
+      let rest = and-right (ltb (before f l) (least f l k)) (ltb (f (suc r)) (least f l k) && some b l k) (g .hit) in
       rw (g .is, ← g .ends) (record {
         order = omega arith;
         inside = omega (arith, g .ends);
-        positive = omega (arith, g .hit .steps-up);
-        height = least-is f l k;
-        left-end = before-ends f l (least f l k) (g .hit .steps-up);
-        right-end = inr (rw (g .ends, add-one) (g .hit .steps-down));
-        held = some-held b l k (g .hit .has-support);
+        positive = omega (arith, up);
+        height = record { below = least-le f l k; met = least-met f l k };
+        left-end = before-ends f l (least f l k) up;
+        right-end = inr (rw (g .ends, add-one) (ltb-true _ _ (and-left (ltb (f (suc r)) (least f l k)) (some b l k) rest)));
+        held = some-held b l k (and-right (ltb (f (suc r)) (least f l k)) (some b l k) rest);
       })
 
   is-found : (e : Entry) → IsEntry f b w e → Found f b (e .right) 0 e
@@ -191,29 +146,29 @@ module _ (f : ℕ → ℕ) (b : ℕ → Bool) (w : ℕ) (edge : f w ≡ 0) where
       let r = e .right in
       let k = r - l in
       let q : l + k ≡ r = omega (arith, i .order) in
-      let t : e .high ≡ least f l k = is-least f l k (e .high) (rw q (i .height)) in
+      let m = least-met f l k in
+      let c = i .height .met in
+      let t : e .high ≡ least f l k = omega (arith, i .height .below (m .cell) (m .from) (omega (arith, m .upto)), m .has, least-le f l k (c .cell) (c .from) (omega (arith, c .upto)), c .has) in
+      let up : before f l < least f l k = rw (← t) (ends-before f l (e .high) (i .positive) (i .left-end)) in
+      let down : f (suc r) < least f l k =
+      ⊎-elim
+      (λ (p : r + 1 ≡ w). let z : f (suc r) ≡ 0 = rw (← add-one, p) edge in omega (arith, i .positive))
+      (λ (p : f (r + 1) < e .high). rw (← t) (rw add-one at p))
+      (i .right-end) in
       record {
         start = l;
         more = k;
         from = omega arith;
         ends = q;
-        hit = record {
-          steps-up = rw (← t) (ends-before f l (e .high) (i .positive) (i .left-end));
-          steps-down = rw (← t)
-              (⊎-elim
-              (λ (p : r + 1 ≡ w). let z : f (suc r) ≡ 0 = rw (← add-one, p) edge in omega (arith, i .positive))
-              (λ (p : f (r + 1) < e .high). rw add-one at p)
-              (i .right-end));
-          has-support = held-some b l k (i .held .cell) (i .held .from) (omega (arith, i .held .upto)) (i .held .has);
-        };
+        hit = rw (lt-ltb _ _ up, lt-ltb _ _ down, held-some b l k (i .held .cell) (i .held .from) (omega (arith, i .held .upto)) (i .held .has));
         is = rw (← t);
       }
 
   -- THE LIST HAS EXACTLY THE ENTRIES
   pub entries-mem : (e : Entry) → List·Memᴰ e (rowEntries f b w) ↔ IsEntry f b w e
   entries-mem e = (
-    λ m. let g = entries-listed f b w e m in found-is (g .at-right) e (g .within) (g .found),
-    λ i. listed-entries f b w (e .right) e (i .inside) (is-found e i),
+    λ m. let g = mem-chain (entriesAt f b) w (rw by-right at m) in found-is (g .0) e (g .1) (from-found f b (g .0) 0 (suc (g .0)) e (omega arith) (g .2)),
+    λ i. rw by-right (chain-mem (entriesAt f b) w (e .right) (i .inside) (found-from f b (e .right) 0 (suc (e .right)) e (omega arith) (is-found e i))),
   )
 
 -- ---- the order
@@ -240,19 +195,13 @@ from-ordered : (f : ℕ → ℕ) (b : ℕ → Bool) (r l n : ℕ) → l + n ≡ 
 unfolding fromLeft Ordered
 from-ordered f b r l zero q = tt
 from-ordered f b r l (suc k) q =
-    ordered-keep Before (ltb (before f l) (least f l k) && (ltb (f (suc r)) (least f l k) && some b l k))
-    (record { left = l; right = r; high = least f l k })
-    (fromLeft f b r (suc l) k)
+    ordered-keep Before (hits f b r l k) (record { left = l; right = r; high = least f l k }) (fromLeft f b r (suc l) k)
     (λ e m. let g = from-found f b r (suc l) k e (omega arith) m in rw (g .is) (inr (refl, g .from)))
     (from-ordered f b r (suc l) k (omega arith))
 
 -- THE LIST IS IN ORDER, AND NO ENTRY STANDS IN IT TWICE
 pub entries-ordered : (f : ℕ → ℕ) (b : ℕ → Bool) (w : ℕ) → Ordered Before (rowEntries f b w)
-unfolding rowEntries Ordered
-entries-ordered f b zero = tt
-entries-ordered f b (suc r) =
-    ordered-append Before (rowEntries f b r) (entriesAt f b r) (entries-ordered f b r) (from-ordered f b r 0 (suc r) (omega arith))
-    (λ x e m n.
-    let g = entries-listed f b r x m in
-    let h = from-found f b r 0 (suc r) e (omega arith) n in
-    rw (g .found .is, h .is) (inl (g .within)))
+entries-ordered f b w =
+    rw by-right
+    (ordered-chain Before (entriesAt f b) w (λ r h. from-ordered f b r 0 (suc r) (omega arith))
+    (λ j k h g a c m n. rw (from-found f b j 0 (suc j) a (omega arith) m .is, from-found f b k 0 (suc k) c (omega arith) n .is) (inl h)))

@@ -1,22 +1,22 @@
 -- A rectangle is a maximal empty one exactly if it is an entry of its bottom row. Assumes nothing.
-use mathlib.Core.Path.{_≡_, refl, sym, ap, _∙_}
+use mathlib.Core.Path.{_≡_, sym, ap, _∙_}
 use mathlib.Core.Logic.{_⊎_, inl, inr, ⊎-elim}
-use mathlib.Core.Bool.{Bool, true, false, false≢true}
-use Prim.Native.Nat.{ℕ, zero, suc, _+_, _-_, _≤_, _<_}
+use mathlib.Core.Bool.{Bool, true, false, cond, false≢true}
+use Prim.Native.Nat.{ℕ, suc, _+_, _-_, _≤_, _<_}
 use native.Mathlib.Nat.{le-refl, eq-or-lt-of-le}
 use native.Mathlib.Omega.{arith}
 use lib.Dec.{ltb}
 use borrow.Author.Tests.{lt-ltb, le-ltb}
-use Rattle.rules.specs.Surface.{rect, upwards}
+use Rattle.rules.specs.Surface.{upwards}
 use Rattle.rules.specs.Empties.{Empty, Inside, Maximal}
 use Rattle.rules.specs.declared.Rect.{Rect}
-use Rattle.rules.proofs.Tests.{fails, and-right}
+use Rattle.rules.proofs.Tests.{lt-or-le, decide, fails, and-right}
 use Rattle.meaning.proofs.Rectangles.{rect-eq}
 use Rattle.listing.specs.Row.{Entry, least, some}
 use Rattle.listing.specs.Meaning.{Cell, IsEntry}
-use Rattle.listing.proofs.Stairs.{cmp}
 use Rattle.listing.proofs.Meaning.{least-le, least-met, some-held, held-some}
 use Rattle.listing.specs.Listed.{heightOf, support, entryOf, entryRect}
+use Rattle.listing.proofs.Cells.{height-in, held-by}
 use Rattle.meaning.proofs.Weights.{upwards-le, upwards-free, upwards-ge}
 
 module _ (occ : ℕ → ℕ → Bool) (W H : ℕ) where
@@ -34,22 +34,11 @@ module _ (occ : ℕ → ℕ → Bool) (W H : ℕ) where
     free = λ c e p r s t. upwards-free occ c d e (omega arith) (omega (arith, f c p r));
   }
 
-  in-row : (d c : ℕ) → c < W → heightOf occ W d c ≡ upwards occ c d
-  unfolding heightOf
-  in-row d c p = rw (lt-ltb c W p)
-
   -- an empty cell of the row has a height; its support, and what support tells
-  stands-up : (d c : ℕ) → c < W → occ c d ≡ false → ltb 0 (heightOf occ W d c) ≡ true
-  stands-up d c p e =
-      lt-ltb 0 (heightOf occ W d c) (rw (in-row d c p) (upwards-ge occ c d 1 (omega arith) (λ r u v. let z : r ≡ d = omega arith in ap (occ c) z ∙ e)))
-
-  support-of : (d c : ℕ) → c < W → suc d < H → occ c d ≡ false → support occ W H d c ≡ occ c (suc d)
-  unfolding support
-  support-of d c l p e = rw (stands-up d c l e, lt-ltb (suc d) H p)
-
-  support-edge : (d c : ℕ) → c < W → H ≤ suc d → occ c d ≡ false → support occ W H d c ≡ true
-  unfolding support
-  support-edge d c l p e = rw (stands-up d c l e, le-ltb (suc d) H p)
+  support-of : (d c : ℕ) → c < W → occ c d ≡ false → support occ W H d c ≡ cond (ltb (suc d) H) (occ c (suc d)) true
+  support-of d c l e =
+      held-by occ W d c H
+      (λ z. omega (arith, height-in occ W d c l, upwards-ge occ c d 1 (omega arith) (λ r u v. let y : r ≡ d = omega arith in ap (occ c) y ∙ e)))
 
   support-below : (d c : ℕ) → suc d < H → support occ W H d c ≡ true → occ c (suc d) ≡ true
   unfolding support
@@ -72,45 +61,41 @@ module _ (occ : ℕ → ℕ → Bool) (W H : ℕ) where
     d-in = omega (arith, m .isEmpty .lines)
 
     high : (c : ℕ) → a .x ≤ c → c < a .x + a .w → a .h ≤ f c
-    high c p r = rw (in-row d c (omega (arith, m .isEmpty .columns))) (runs a d q (m .isEmpty) c p r)
+    high c p r = rw (height-in occ W d c (omega (arith, m .isEmpty .columns))) (runs a d q (m .isEmpty) c p r)
 
-    -- a rectangle that is larger is not empty
-    no-larger : (b : Rect) → Inside a b → (b ≡ a → ⊥) → Empty occ W H b → ⊥
-    no-larger b i n e = n (m .most b e i)
+    -- the columns of a larger rectangle around it, with its bottom row at d′, are not all as high
+    no-larger : (b : Rect) (d′ : ℕ) → b .y + b .h ≡ suc d′ → (d′ < H) × (b .x + b .w ≤ W) × (a .w + a .h < b .w + b .h)
+        → (b .x ≤ a .x) × (b .y ≤ a .y) × (a .x + a .w ≤ b .x + b .w) × (a .y + a .h ≤ b .y + b .h)
+        → ((c : ℕ) → b .x ≤ c → c < b .x + b .w → b .h ≤ upwards occ c d′) → ⊥
+    no-larger b d′ z l i f =
+        let e = built b d′ z (l .0) (omega (arith, m .isEmpty .wide)) (omega (arith, m .isEmpty .tall)) (l .1) f in
+        let s : b ≡ a = m .most b e (record { left = i .0; top = i .1; right = i .2; bottom = i .3 }) in
+        omega (arith, ap (λ (r : Rect). r .w + r .h) s)
 
     no-higher : ((c : ℕ) → a .x ≤ c → c < a .x + a .w → suc (a .h) ≤ f c) → ⊥
     no-higher g =
-        let g₀ : suc (a .h) ≤ upwards occ (a .x) d = rw (in-row d (a .x) (omega (arith, m .isEmpty .columns, m .isEmpty .wide))) at (g (a .x) (le-refl _) (omega (arith, m .isEmpty .wide))) in
+        let g₀ : suc (a .h) ≤ upwards occ (a .x) d = rw (height-in occ W d (a .x) (omega (arith, m .isEmpty .columns, m .isEmpty .wide))) at (g (a .x) (le-refl _) (omega (arith, m .isEmpty .wide))) in
         let t : suc (a .h) ≤ suc d = omega (arith, upwards-le occ (a .x) d) in
-        no-larger (record { x = a .x; y = a .y - 1; w = a .w; h = suc (a .h) })
-        (record { left = omega arith; top = omega arith; right = omega arith; bottom = omega arith })
-        (λ e. omega (arith, ap (λ (r : Rect). r .h) e))
-        (built _ d (omega arith) d-in (m .isEmpty .wide) (omega arith) (m .isEmpty .columns)
-        (λ c p r. rw (in-row d c (omega (arith, m .isEmpty .columns))) at (g c p r)))
+        no-larger (record { x = a .x; y = a .y - 1; w = a .w; h = suc (a .h) }) d (omega arith) (omega (arith, d-in, m .isEmpty .columns)) (omega arith)
+        (λ c p r. rw (height-in occ W d c (omega (arith, m .isEmpty .columns))) at (g c p r))
 
     no-wider-left : (l : ℕ) → a .x ≡ suc l → a .h ≤ f l → ⊥
     no-wider-left l e g =
-        no-larger (record { x = l; y = a .y; w = suc (a .w); h = a .h })
-        (record { left = omega arith; top = omega arith; right = omega arith; bottom = omega arith })
-        (λ s. omega (arith, ap (λ (r : Rect). r .w) s))
-        (built _ d q d-in (omega arith) (m .isEmpty .tall) (omega (arith, m .isEmpty .columns))
+        no-larger (record { x = l; y = a .y; w = suc (a .w); h = a .h }) d q (omega (arith, d-in, m .isEmpty .columns)) (omega arith)
         (λ c p r.
         ⊎-elim
-        (λ (z : l ≡ c). rw (← z, ← in-row d l (omega (arith, m .isEmpty .columns))) g)
+        (λ (z : l ≡ c). rw (← z, ← height-in occ W d l (omega (arith, m .isEmpty .columns))) g)
         (λ (z : l < c). runs a d q (m .isEmpty) c (omega arith) (omega arith))
-        (eq-or-lt-of-le p)))
+        (eq-or-lt-of-le p))
 
     no-wider-right : a .x + a .w < W → a .h ≤ f (a .x + a .w) → ⊥
     no-wider-right l g =
-        no-larger (record { x = a .x; y = a .y; w = suc (a .w); h = a .h })
-        (record { left = omega arith; top = omega arith; right = omega arith; bottom = omega arith })
-        (λ s. omega (arith, ap (λ (r : Rect). r .w) s))
-        (built _ d q d-in (omega arith) (m .isEmpty .tall) (omega arith)
+        no-larger (record { x = a .x; y = a .y; w = suc (a .w); h = a .h }) d q (omega (arith, d-in)) (omega arith)
         (λ c p r.
         ⊎-elim
         (λ (z : c < a .x + a .w). runs a d q (m .isEmpty) c p z)
-        (λ (z : a .x + a .w ≤ c). let e : c ≡ a .x + a .w = omega arith in rw (e, ← in-row d (a .x + a .w) l) g)
-        (cmp c (a .x + a .w))))
+        (λ (z : a .x + a .w ≤ c). let e : c ≡ a .x + a .w = omega arith in rw (e, ← height-in occ W d (a .x + a .w) l) g)
+        (lt-or-le c (a .x + a .w)))
 
     -- its bottom row is empty
     bare : (c : ℕ) → a .x ≤ c → c < a .x + a .w → occ c d ≡ false
@@ -120,15 +105,12 @@ module _ (occ : ℕ → ℕ → Bool) (W H : ℕ) where
     no-lower g =
         ⊎-elim
         (λ (p : suc d < H).
-        no-larger (record { x = a .x; y = a .y; w = a .w; h = suc (a .h) })
-        (record { left = omega arith; top = omega arith; right = omega arith; bottom = omega arith })
-        (λ s. omega (arith, ap (λ (r : Rect). r .h) s))
-        (built _ (suc d) (omega arith) p (m .isEmpty .wide) (omega arith) (m .isEmpty .columns)
-        (λ c i j. one-lower c (sym (support-of d c (omega (arith, m .isEmpty .columns)) p (bare c i j)) ∙ g c i j) (runs a d q (m .isEmpty) c i j))))
+        no-larger (record { x = a .x; y = a .y; w = a .w; h = suc (a .h) }) (suc d) (omega arith) (omega (arith, m .isEmpty .columns)) (omega arith)
+        (λ c i j. one-lower c (rw (lt-ltb (suc d) H p) at (sym (support-of d c (omega (arith, m .isEmpty .columns)) (bare c i j)) ∙ g c i j)) (runs a d q (m .isEmpty) c i j)))
         (λ (p : H ≤ suc d).
         let l : a .x < a .x + a .w = omega (arith, m .isEmpty .wide) in
-        false≢true (sym (g (a .x) (le-refl _) l) ∙ support-edge d (a .x) (omega (arith, m .isEmpty .columns)) p (bare (a .x) (le-refl _) l)))
-        (cmp (suc d) H)
+        false≢true (sym (g (a .x) (le-refl _) l) ∙ support-of d (a .x) (omega (arith, m .isEmpty .columns)) (bare (a .x) (le-refl _) l) ∙ rw (le-ltb (suc d) H p)))
+        (lt-or-le (suc d) H)
 
     -- left cell and right cell, and how far apart
     apart : ℕ
@@ -146,25 +128,22 @@ module _ (occ : ℕ → ℕ → Bool) (W H : ℕ) where
         ⊎-elim
         (λ (p : a .h < least f (a .x) apart). absurd (no-higher (λ e i j. omega (arith, least-le f (a .x) apart e i (omega arith)))))
         (λ (p : least f (a .x) apart ≤ a .h). omega arith)
-        (cmp (a .h) (least f (a .x) apart))
+        (lt-or-le (a .h) (least f (a .x) apart))
 
     held-below : Cell (a .x) (a .x + apart) (λ c. support occ W H d c ≡ true)
     unfolding apart
-    held-below = go (some (support occ W H d) (a .x) apart) refl
-      where
-        go : (t : Bool) → some (support occ W H d) (a .x) apart ≡ t → Cell (a .x) (a .x + apart) (λ c. support occ W H d c ≡ true)
-        go true e = some-held (support occ W H d) (a .x) apart e
-        go false e =
-            absurd (no-lower (λ c i j. fails (support occ W H d c) (λ s. false≢true (sym e ∙ held-some (support occ W H d) (a .x) apart c i (omega arith) s))))
-
-    ends-left : (l : ℕ) → a .x ≡ l → (a .x ≡ 0) ⊎ (f (a .x - 1) < a .h)
-    ends-left zero e = inl e
-    ends-left (suc l) e =
-        let z : a .x - 1 ≡ l = omega arith in
+    held-below =
         ⊎-elim
-        (λ (p : f l < a .h). inr (rw z p))
-        (λ (p : a .h ≤ f l). absurd (no-wider-left l e p))
-        (cmp (f l) (a .h))
+        (λ e. some-held (support occ W H d) (a .x) apart e)
+        (λ e. absurd (no-lower (λ c i j. fails (support occ W H d c) (λ s. false≢true (sym e ∙ held-some (support occ W H d) (a .x) apart c i (omega arith) s)))))
+        (decide (some (support occ W H d) (a .x) apart))
+
+    ends-left : (a .x ≡ 0) ⊎ (f (a .x - 1) < a .h)
+    ends-left =
+        ⊎-elim
+        (λ (p : 0 < a .x). ⊎-elim inr (λ (g : a .h ≤ f (a .x - 1)). absurd (no-wider-left (a .x - 1) (omega arith) g)) (lt-or-le (f (a .x - 1)) (a .h)))
+        (λ (p : a .x ≤ 0). inl (omega arith))
+        (lt-or-le 0 (a .x))
 
     ends-right : (right + 1 ≡ W) ⊎ (f (right + 1) < a .h)
     ends-right =
@@ -172,9 +151,9 @@ module _ (occ : ℕ → ℕ → Bool) (W H : ℕ) where
         rw z
         (⊎-elim
         (λ (p : a .x + a .w < W).
-        ⊎-elim (λ (g : f (a .x + a .w) < a .h). inr g) (λ (g : a .h ≤ f (a .x + a .w)). absurd (no-wider-right p g)) (cmp (f (a .x + a .w)) (a .h)))
+        ⊎-elim (λ (g : f (a .x + a .w) < a .h). inr g) (λ (g : a .h ≤ f (a .x + a .w)). absurd (no-wider-right p g)) (lt-or-le (f (a .x + a .w)) (a .h)))
         (λ (p : W ≤ a .x + a .w). inl (omega (arith, m .isEmpty .columns)))
-        (cmp (a .x + a .w) W))
+        (lt-or-le (a .x + a .w) W))
 
     -- A MAXIMAL RECTANGLE IS AN ENTRY OF ITS BOTTOM ROW
     pub maximal-entry : IsEntry (heightOf occ W d) (support occ W H d) W (entryOf a)
@@ -186,7 +165,7 @@ module _ (occ : ℕ → ℕ → Bool) (W H : ℕ) where
         below = λ c p r. high c p (omega (arith, m .isEmpty .wide));
         met = rw height-met at (rw spans at (least-met f (a .x) apart));
       };
-      left-end = ends-left (a .x) refl;
+      left-end = ends-left;
       right-end = ends-right;
       held = rw spans at held-below;
     }
@@ -194,7 +173,7 @@ module _ (occ : ℕ → ℕ → Bool) (W H : ℕ) where
   -- ---- an entry is a maximal rectangle
   module _ (d : ℕ) (e : Entry) (d-on : d < H) (i : IsEntry (heightOf occ W d) (support occ W H d) W e) where
     tall-enough : (c : ℕ) → e .left ≤ c → c < e .left + (suc (e .right) - e .left) → e .high ≤ upwards occ c d
-    tall-enough c p r = rw (in-row d c (omega (arith, i .inside, i .order))) at (i .height .below c p (omega (arith, i .order)))
+    tall-enough c p r = rw (height-in occ W d c (omega (arith, i .inside, i .order))) at (i .height .below c p (omega (arith, i .order)))
 
     pub from-top : suc d - e .high + e .high ≡ suc d
     from-top = omega (arith, tall-enough (e .left) (le-refl _) (omega (arith, i .order)), upwards-le occ (e .left) d)
@@ -209,14 +188,14 @@ module _ (occ : ℕ → ℕ → Bool) (W H : ℕ) where
           let o : occ (c .cell) (suc d) ≡ true = support-below d (c .cell) (omega (arith, m .lines)) (c .has) in
           absurd (false≢true (sym (m .free (c .cell) (suc d) (omega (arith, c .from, n .left)) (omega (arith, c .upto, n .right, i .order)) (omega (arith, n .top)) (omega arith)) ∙ o)))
           (λ (p : d′ ≤ d). omega (arith, n .bottom, from-top))
-          (cmp d d′)
+          (lt-or-le d d′)
 
       bottom : b .y + b .h ≡ suc d
       bottom = q ∙ ap suc same-bottom
 
       -- its columns are as high as it is
       column : (c : ℕ) → b .x ≤ c → c < b .x + b .w → b .h ≤ heightOf occ W d c
-      column c p r = rw (in-row d c (omega (arith, m .columns))) (runs b d bottom m c p r)
+      column c p r = rw (height-in occ W d c (omega (arith, m .columns))) (runs b d bottom m c p r)
 
       same-height : b .h ≡ e .high
       same-height =
@@ -234,27 +213,19 @@ module _ (occ : ℕ → ℕ → Bool) (W H : ℕ) where
       same-left =
           ⊎-elim
           (λ (p : b .x < e .left).
-          absurd
-          (⊎-elim
-          (λ (z : e .left ≡ 0). omega arith)
-          (λ (z : heightOf occ W d (e .left - 1) < e .high).
-          omega (arith, same-height, column (e .left - 1) (omega arith) (omega (arith, n .right, i .order))))
-          (i .left-end)))
+          let g = column (e .left - 1) (omega arith) (omega (arith, n .right, i .order)) in
+          absurd (⊎-elim (λ (z : e .left ≡ 0). omega arith) (λ (z : heightOf occ W d (e .left - 1) < e .high). omega (arith, same-height, g)) (i .left-end)))
           (λ (p : e .left ≤ b .x). omega (arith, n .left))
-          (cmp (b .x) (e .left))
+          (lt-or-le (b .x) (e .left))
 
       same-right : b .x + b .w ≡ suc (e .right)
       same-right =
           ⊎-elim
           (λ (p : suc (e .right) < b .x + b .w).
-          absurd
-          (⊎-elim
-          (λ (z : e .right + 1 ≡ W). omega (arith, m .columns))
-          (λ (z : heightOf occ W d (e .right + 1) < e .high).
-          omega (arith, same-height, column (e .right + 1) (omega (arith, n .left, i .order)) (omega arith)))
-          (i .right-end)))
+          let g = column (e .right + 1) (omega (arith, n .left, i .order)) (omega arith) in
+          absurd (⊎-elim (λ (z : e .right + 1 ≡ W). omega (arith, m .columns)) (λ (z : heightOf occ W d (e .right + 1) < e .high). omega (arith, same-height, g)) (i .right-end)))
           (λ (p : b .x + b .w ≤ suc (e .right)). omega (arith, n .right, i .order))
-          (cmp (suc (e .right)) (b .x + b .w))
+          (lt-or-le (suc (e .right)) (b .x + b .w))
 
       same : b ≡ entryRect d e
       same = rect-eq b (entryRect d e) same-left (omega (arith, same-bottom, same-height, from-top)) (omega (arith, same-left, same-right)) same-height

@@ -12,8 +12,9 @@ use lib.ListN.{length, getD, set}
 use lib.Seq.{getD-set-same, getD-set-other}
 use lib.Dec.{ltb}
 use borrow.Author.Tests.{lt-ltb, le-ltb}
+use Rattle.rules.proofs.Tests.{lt-or-le}
 use Rattle.listing.specs.Row.{Stair, pushed, leaving, span, stairAt, entryAt, stack, rows, Rises, CutAt}
-use Rattle.listing.proofs.Stairs.{cmp, Above, Rising, pushed-low, pushed-high, none-leaves}
+use Rattle.listing.proofs.StairLaws.{Above, Rising, pushed-low, pushed-high, none-leaves}
 
 module _ {A : Type 0} (g : ℕ → A) where
   pub length-span : (i n : ℕ) → length (span g i n) ≡ n
@@ -108,7 +109,7 @@ cut-found sh n v k r w p h u = record {
       ⊎-elim
       (λ (q : j < k - 1). omega (arith, r j (k - 1) q (omega arith)))
       (λ (q : k - 1 ≤ j). let e : k - 1 ≡ j = omega arith in subst (λ (m : ℕ). getD sh m 0 < v) e u)
-      (cmp j (k - 1));
+      (lt-or-le j (k - 1));
   high = h;
 }
 
@@ -137,7 +138,7 @@ module _ (sl sh : List ℕ) (n v k : ℕ) (c : CutAt sh n v k) where
       (⊎-elim
       (λ (h : k < n). rw (span-next (stairAt sl sh) k n h, lt-ltb k n h) (pushed-high true v x (stairAt sl sh k) (span (stairAt sl sh) (k + 1) (n - (k + 1))) (c .high h)))
       (λ (h : n ≤ k). rw (span-end (stairAt sl sh) k n h, le-ltb k n h))
-      (cmp k n))
+      (lt-or-le k n))
 
 -- where v is 0 no stair is left
 pub pushed-zero : (x : ℕ) (t : List Stair) → pushed false 0 x t ≡ []
@@ -147,24 +148,18 @@ pushed-zero x (s ∷ t) = pushed-high false 0 x s t (omega arith)
 
 -- ---- stores
 
+-- one more behind the first k, which stay
+store : {A : Type 0} (g g′ : ℕ → A) (k : ℕ) {a : A} → g′ k ≡ a → ((j : ℕ) → j < k → g′ j ≡ g j) → span g′ 0 (k + 1) ≡ span g 0 k ++ (a ∷ [])
+store g g′ k e h = span-more g′ k ∙ rw (e, span-cong g′ g 0 k (λ j p q. h j (omega arith)))
+
 pub stack-store : (sl sh : List ℕ) (k a v : ℕ) → k < length sl → k < length sh
     → stack (set sl k a) (set sh k v) (k + 1) ≡ stack sl sh k ++ (record { left = a; high = v } ∷ [])
 stack-store sl sh k a v p q =
-    span-more (stairAt (set sl k a) (set sh k v)) k
-    ∙ rw (
-      getD-set-same sl k a 0 p,
-      getD-set-same sh k v 0 q,
-      span-cong (stairAt (set sl k a) (set sh k v)) (stairAt sl sh) 0 k (λ j l u. rw (getD-set-other sl k j a 0 (omega arith), getD-set-other sh k j v 0 (omega arith))),
-    )
+    store (stairAt sl sh) (stairAt (set sl k a) (set sh k v)) k (rw (getD-set-same sl k a 0 p, getD-set-same sh k v 0 q))
+    (λ j l. rw (getD-set-other sl k j a 0 (omega arith), getD-set-other sh k j v 0 (omega arith)))
 
 pub rows-store : (ls rs hs : List ℕ) (o l r h : ℕ) → o < length ls → o < length rs → o < length hs
     → rows (set ls o l) (set rs o r) (set hs o h) (o + 1) ≡ rows ls rs hs o ++ (record { left = l; right = r; high = h } ∷ [])
 rows-store ls rs hs o l r h p q u =
-    span-more (entryAt (set ls o l) (set rs o r) (set hs o h)) o
-    ∙ rw (
-      getD-set-same ls o l 0 p,
-      getD-set-same rs o r 0 q,
-      getD-set-same hs o h 0 u,
-      span-cong (entryAt (set ls o l) (set rs o r) (set hs o h)) (entryAt ls rs hs) 0 o
-          (λ j a b. rw (getD-set-other ls o j l 0 (omega arith), getD-set-other rs o j r 0 (omega arith), getD-set-other hs o j h 0 (omega arith))),
-    )
+    store (entryAt ls rs hs) (entryAt (set ls o l) (set rs o r) (set hs o h)) o (rw (getD-set-same ls o l 0 p, getD-set-same rs o r 0 q, getD-set-same hs o h 0 u))
+    (λ j a. rw (getD-set-other ls o j l 0 (omega arith), getD-set-other rs o j r 0 (omega arith), getD-set-other hs o j h 0 (omega arith)))

@@ -12,9 +12,9 @@ use Rattle.rules.specs.declared.Rect.{Rect}
 use Rattle.listing.specs.Row.{Entry, stairs, pushed, leaving, reach, entriesAt}
 use Rattle.listing.specs.Meaning.{IsEntry}
 use Rattle.listing.specs.Listed.{heightOf, support, entryOf, entryRect, entriesIn, rectsIn, listed}
-use Rattle.listing.proofs.Stairs as S
+use Rattle.listing.proofs.StairLaws as S
 use Rattle.listing.proofs.Plane as P
-use Rattle.listing.proofs.List as L
+use Rattle.listing.proofs.ListLaws as L
 use Rattle.listing.proofs.Corners as C
 
 -- ---- "The list is ordered by bottom row, then by right column, then by left column, all rising": it is the rows' lists one behind the other

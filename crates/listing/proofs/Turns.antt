@@ -1,16 +1,16 @@
 -- The invariants of the two loops that write, and a turn of each, on plain values. Assumes nothing.
-use mathlib.Core.Path.{_≡_, sym, ap, _∙_, subst}
+use mathlib.Core.Path.{_≡_, sym, _∙_}
 use mathlib.Core.Logic.{⊎-elim}
 use mathlib.Core.Bool.{cond, and-false}
 use mathlib.Core.List.{List, _∷_, _++_, append-assoc, append-nil}
 use Prim.Native.Nat.{ℕ, _+_, _-_, _≤_, _<_}
 use native.Mathlib.Omega.{arith}
-use lib.ListN.{length, getD, set, drop, length-set}
-use lib.Seq.{drop-drop, drop-set-lt}
+use lib.ListN.{length, getD, set, length-set}
 use lib.Dec.{ltb}
 use borrow.Author.Tests.{lt-ltb, le-ltb}
-use Rattle.listing.specs.Row.{Entry, Stair, leaving, pushed, span, stairAt, stack, rows, CutAt, Rest}
-use Rattle.listing.proofs.Stairs.{cmp, none-leaves}
+use Rattle.rules.proofs.Tests.{lt-or-le}
+use Rattle.listing.specs.Row.{Entry, Stair, leaving, pushed, span, stairAt, stack, rows, CutAt}
+use Rattle.listing.proofs.StairLaws.{none-leaves}
 use Rattle.listing.proofs.Spans.{span-next, span-end, rows-store, stack-store, pushed-there, pushed-zero}
 
 -- ---- emit
@@ -20,43 +20,11 @@ one-leaves : (v e r : ℕ) (s : Stair) (t : List Stair) → v < s .high → s .l
 unfolding leaving
 one-leaves v e r s t p q = rw (lt-ltb v (s .high) p, lt-ltb (s .left) e q)
 
-unheld-stays : (v e r : ℕ) (s : Stair) (t : List Stair) → e ≤ s .left → leaving v e r (s ∷ t) ≡ leaving v e r t
-unfolding leaving
-unheld-stays v e r s t q = rw (le-ltb (s .left) e q, and-false)
-
--- what was so from n on is so from further on
-drop-more : (a b : List ℕ) (n m : ℕ) → n ≤ m → drop n a ≡ drop n b → drop m a ≡ drop m b
-drop-more a b n m h e =
-    let q : n + (m - n) ≡ m = omega arith in
-    subst (λ (k : ℕ). drop k a ≡ drop k b) q (sym (drop-drop (m - n) n a) ∙ ap (drop (m - n)) e ∙ drop-drop (m - n) n b)
-
-pub rest-more : {ls₀ rs₀ hs₀ ls₁ rs₁ hs₁ ls rs hs : List ℕ} {n m : ℕ} → n ≤ m
-    → Rest ls₀ rs₀ hs₀ ls₁ rs₁ hs₁ n → Rest ls₁ rs₁ hs₁ ls rs hs m → Rest ls₀ rs₀ hs₀ ls rs hs m
-rest-more {ls₀} {rs₀} {hs₀} {ls₁} {rs₁} {hs₁} {n = n} {m = m} h a b = record {
-  of-lefts = b .of-lefts ∙ drop-more ls₁ ls₀ n m h (a .of-lefts);
-  of-rights = b .of-rights ∙ drop-more rs₁ rs₀ n m h (a .of-rights);
-  of-heights = b .of-heights ∙ drop-more hs₁ hs₀ n m h (a .of-heights);
-}
-
-rest-set : (ls₀ rs₀ hs₀ ls rs hs : List ℕ) (o l r h : ℕ) → Rest ls₀ rs₀ hs₀ ls rs hs o
-    → Rest ls₀ rs₀ hs₀ (set ls o l) (set rs o r) (set hs o h) (o + 1)
-rest-set ls₀ rs₀ hs₀ ls rs hs o l r h a =
-    rest-more (omega arith) a (record {
-      of-lefts = drop-set-lt (o + 1) ls o l (omega arith);
-      of-rights = drop-set-lt (o + 1) rs o r (omega arith);
-      of-heights = drop-set-lt (o + 1) hs o h (omega arith);
-    })
-
 -- what is written and what is still to leave are together what had to leave
 pub record Emitted (sl sh : List ℕ) (n v e r : ℕ) (all : List Entry) (ls₀ rs₀ hs₀ ls rs hs : List ℕ) (i o : ℕ) : Type 0 where
   pub upto : i ≤ n
-  pub long-l : length ls ≡ length ls₀
-  pub long-r : length rs ≡ length rs₀
-  pub long-h : length hs ≡ length hs₀
-  pub room-l : o + (n - i) ≤ length ls
-  pub room-r : o + (n - i) ≤ length rs
-  pub room-h : o + (n - i) ≤ length hs
-  pub rest : Rest ls₀ rs₀ hs₀ ls rs hs o
+  pub long : (length ls ≡ length ls₀) × (length rs ≡ length rs₀) × (length hs ≡ length hs₀)
+  pub room : (o + (n - i) ≤ length ls) × (o + (n - i) ≤ length rs) × (o + (n - i) ≤ length hs)
   pub same : rows ls rs hs o ++ leaving v e r (span (stairAt sl sh) i (n - i)) ≡ all
 
 module _ {sl sh : List ℕ} {n v e r : ℕ} {all : List Entry} {ls₀ rs₀ hs₀ ls rs hs : List ℕ} {i o : ℕ} (h : Emitted sl sh n v e r all ls₀ rs₀ hs₀ ls rs hs i o) where
@@ -69,13 +37,8 @@ module _ {sl sh : List ℕ} {n v e r : ℕ} {all : List Entry} {ls₀ rs₀ hs�
         → Emitted sl sh n v e r all ls₀ rs₀ hs₀ ls rs hs (i + 1) o
     skip q = record {
       upto = omega arith;
-      long-l = h .long-l;
-      long-r = h .long-r;
-      long-h = h .long-h;
-      room-l = omega arith;
-      room-r = omega arith;
-      room-h = omega arith;
-      rest = h .rest;
+      long = h .long;
+      room = omega arith;
       same = rw (← q, ← span-next (stairAt sl sh) i n p) (h .same);
     }
 
@@ -83,19 +46,14 @@ module _ {sl sh : List ℕ} {n v e r : ℕ} {all : List Entry} {ls₀ rs₀ hs�
     emit-low q = skip (none-leaves v e r (stairAt sl sh i) (span (stairAt sl sh) (i + 1) (n - (i + 1))) q)
 
     pub emit-unheld : e ≤ getD sl i 0 → Emitted sl sh n v e r all ls₀ rs₀ hs₀ ls rs hs (i + 1) o
-    emit-unheld q = skip (unheld-stays v e r (stairAt sl sh i) (span (stairAt sl sh) (i + 1) (n - (i + 1))) q)
+    emit-unheld q = skip (unfold leaving in (rw (le-ltb (getD sl i 0) e q, and-false)))
 
     pub emit-put : v < getD sh i 0 → getD sl i 0 < e
         → Emitted sl sh n v e r all ls₀ rs₀ hs₀ (set ls o (getD sl i 0)) (set rs o r) (set hs o (getD sh i 0)) (i + 1) (o + 1)
     emit-put a b = record {
       upto = omega arith;
-      long-l = length-set ls o _ ∙ h .long-l;
-      long-r = length-set rs o _ ∙ h .long-r;
-      long-h = length-set hs o _ ∙ h .long-h;
-      room-l = rw length-set (omega arith);
-      room-r = rw length-set (omega arith);
-      room-h = rw length-set (omega arith);
-      rest = rest-set ls₀ rs₀ hs₀ ls rs hs o (getD sl i 0) r (getD sh i 0) (h .rest);
+      long = simp length-set (h .long);
+      room = simp length-set (omega arith);
       same =
           rw (
             rows-store ls rs hs o (getD sl i 0) r (getD sh i 0) (omega arith) (omega arith) (omega arith),
@@ -112,13 +70,10 @@ emit-at a b c d h = rw (a, b, c, d) h
 
 -- ---- push
 
-pub pos : (v : ℕ) → (v ≡ 0 → ⊥) → 0 < v
-pos v h = ⊎-elim (λ (p : 0 < v). p) (λ (p : v ≤ 0). absurd (h (omega arith))) (cmp 0 v)
-
 pub push-none : (sl sh : List ℕ) (n v k x : ℕ) → CutAt sh n v k → v ≡ 0 → stack sl sh k ≡ pushed (ltb 0 v) v x (stack sl sh n)
 unfolding span
 push-none sl sh n v k x c z =
-    let e : k ≡ 0 = ⊎-elim (λ (p : 0 < k). absurd (omega (arith, c .low 0 p))) (λ (p : k ≤ 0). omega arith) (cmp 0 k) in
+    let e : k ≡ 0 = ⊎-elim (λ (p : 0 < k). absurd (omega (arith, c .low 0 p))) (λ (p : k ≤ 0). omega arith) (lt-or-le 0 k) in
     rw (e, z) (sym (pushed-zero x (stack sl sh n)))
 
 pub push-some : (sl sh : List ℕ) (n v k x l : ℕ) → CutAt sh n v k → 0 < v → (k < length sl) × (k < length sh)

@@ -6,41 +6,32 @@ use mathlib.Core.Bool.{Bool, true, false, cond}
 use mathlib.Core.List.{List, [], _∷_, _++_, append-nil}
 use Prim.Native.Nat.{ℕ, zero, suc, _+_, _-_, _≤_, _<_}
 use native.Mathlib.Nat.{le-refl}
-use native.Mathlib.Numerals.{add-one}
+use native.Mathlib.Numerals.{add-one, sub-one}
 use native.Mathlib.Omega.{arith}
-use lib.ListN.{length, getD, length-append}
+use lib.ListN.{length, getD}
 use lib.Dec.{ltb, eqb}
 use borrow.Author.Tests.{lt-ltb, le-ltb, eqb-true, eqb-false}
-use Rattle.listing.specs.Row.{Entry, Stair, before, rowEntries, stairs, stairsFrom, reach, leaving, pushed, span, stairAt, entryAt, stack, rows, turns, Rises, CutAt, Open, Rest}
-use Rattle.listing.proofs.Stairs.{cmp, none-leaves, Rising, stairs-rising, push-law, ended, ended-law, count-le, entries-le}
-use Rattle.listing.proofs.Turns.{rest-more, push-none}
-use Rattle.listing.proofs.Spans.{length-span, span-more, span-next, span-end, rises, cut-none, leaving-cut, pushed-there, pushed-zero}
+use Rattle.rules.proofs.Tests.{lt-or-le, decide}
+use Rattle.listing.specs.Row.{Entry, Stair, before, rowEntries, stairs, stairsFrom, reach, leaving, pushed, span, stairAt, entryAt, stack, rows, turns, Rises, CutAt, Open}
+use Rattle.listing.proofs.StairLaws.{none-leaves, Rising, stairs-rising, push-law, ended, ended-law, count-le}
+use Rattle.listing.proofs.Turns.{push-none}
+use Rattle.listing.proofs.Spans.{length-span, span-more, span-next, span-end, rises, cut-found, cut-none, leaving-cut, pushed-there, pushed-zero}
 
--- the stairs over the first x cells are held, the rowEntries that ended before x are written, and e is as far as there is support
+-- the stairs over the first x cells are held, the entries that ended before x are written, and e is as far as there is support
 pub record Walked (f : ℕ → ℕ) (b : ℕ → Bool) (w : ℕ) (sl₀ sh₀ ls₀ rs₀ es₀ sl sh ls rs es : List ℕ) (n m e x : ℕ) : Type 0 where
   pub upto : x ≤ w + 1
-  pub long-sl : length sl ≡ length sl₀
-  pub long-sh : length sh ≡ length sh₀
-  pub long-l : length ls ≡ length ls₀
-  pub long-r : length rs ≡ length rs₀
-  pub long-h : length es ≡ length es₀
+  pub long : (length sl ≡ length sl₀) × (length sh ≡ length sh₀) × (length ls ≡ length ls₀) × (length rs ≡ length rs₀) × (length es ≡ length es₀)
   pub held : stack sl sh n ≡ stairs f x
   pub written : rows ls rs es m ≡ ended f b x
-  pub rest : Rest ls₀ rs₀ es₀ ls rs es m
   pub support : e ≡ reach b x
 
 pub walk-start : (f : ℕ → ℕ) (b : ℕ → Bool) (w : ℕ) (sl sh ls rs es : List ℕ) → Walked f b w sl sh ls rs es sl sh ls rs es 0 0 0 0
 unfolding span stairsFrom ended reach
 walk-start f b w sl sh ls rs es = record {
   upto = omega arith;
-  long-sl = refl;
-  long-sh = refl;
-  long-l = refl;
-  long-r = refl;
-  long-h = refl;
+  long = (refl, refl, refl, refl, refl);
   held = refl;
   written = refl;
-  rest = record { of-lefts = refl; of-rights = refl; of-heights = refl };
   support = refl;
 }
 
@@ -48,16 +39,8 @@ walk-start f b w sl sh ls rs es = record {
 pub written-length : (l : List Entry) (ls rs es : List ℕ) (m : ℕ) → rows ls rs es m ≡ l → m ≡ length l
 written-length l ls rs es m q = sym (length-span (entryAt ls rs es) 0 m) ∙ ap length q
 
-pub written-le : (f : ℕ → ℕ) (b : ℕ → Bool) (w : ℕ) (ls rs es : List ℕ) (m : ℕ) → rows ls rs es m ≡ rowEntries f b w → m ≤ w
-written-le f b w ls rs es m q = omega (arith, entries-le f b w, written-length (rowEntries f b w) ls rs es m q)
-
--- what is added to makes it no shorter
-longer : (m m′ : ℕ) (g g′ : ℕ → Entry) (l : List Entry) → span g′ 0 m′ ≡ span g 0 m ++ l → m ≤ m′
-longer m m′ g g′ l q =
-    omega (arith, sym (length-span g′ 0 m′) ∙ ap length q ∙ length-append (span g 0 m) l, length-span g 0 m)
-
 module _ {f : ℕ → ℕ} {b : ℕ → Bool} {w : ℕ} {sl₀ sh₀ ls₀ rs₀ es₀ sl sh ls rs es : List ℕ} {n m e x : ℕ} (i : Walked f b w sl₀ sh₀ ls₀ rs₀ es₀ sl sh ls rs es n m e x) where
-  -- stairs and rowEntries together are no more than the cells
+  -- stairs and entries together are no more than the cells
   pub room : m + n ≤ x
   room =
       omega (
@@ -76,11 +59,8 @@ module _ {f : ℕ → ℕ} {b : ℕ → Bool} {w : ℕ} {sl₀ sh₀ ls₀ rs₀
 
   -- what a turn's calls ask: x is a cell or just past the last, and there is room for a row
   module _ (h : x ≤ w) where
-    pub fits-sl : w ≤ length sl₀ → n ≤ length sl
-    fits-sl p = omega (arith, room, i .long-sl)
-
-    pub fits-sh : w ≤ length sh₀ → n ≤ length sh
-    fits-sh p = omega (arith, room, i .long-sh)
+    pub fits-in : w ≤ length sl₀ → w ≤ length sh₀ → (n ≤ length sl) × (n ≤ length sh)
+    fits-in p q = omega (arith, room)
 
     pub fits-out : (k : ℕ) → (w ≤ length ls₀) × (w ≤ length rs₀) × (w ≤ length es₀)
         → (m + (n - k) ≤ length ls) × (m + (n - k) ≤ length rs) × (m + (n - k) ≤ length es)
@@ -90,89 +70,37 @@ module _ {f : ℕ → ℕ} {b : ℕ → Bool} {w : ℕ} {sl₀ sh₀ ls₀ rs₀
     pub enters : (v k : ℕ) → f w ≡ 0 → v ≡ f x → CutAt sh n v k → w ≤ length sl₀ → w ≤ length sh₀ → 0 < v → (k < length sl) × (k < length sh)
     enters v k z q c p r t =
         ⊎-elim
-        (λ (u : x < w). omega (arith, c .within, room, i .long-sl, i .long-sh))
+        (λ (u : x < w). omega (arith, c .within, room))
         (λ (u : w ≤ x). let s : x ≡ w = omega arith in absurd (omega (arith, ap f s)))
-        (cmp x w)
+        (lt-or-le x w)
 
     pub walk-more : (v k r : ℕ) (sl′ sh′ ls′ rs′ es′ : List ℕ) (n′ m′ e′ : ℕ) → v ≡ f x → CutAt sh n v k → r ≡ x - 1
         → length sl′ ≡ length sl → length sh′ ≡ length sh → length ls′ ≡ length ls → length rs′ ≡ length rs → length es′ ≡ length es
         → rows ls′ rs′ es′ m′ ≡ rows ls rs es m ++ leaving v e r (span (stairAt sl sh) k (n - k))
-        → Rest ls rs es ls′ rs′ es′ m′
         → stack sl′ sh′ n′ ≡ pushed (ltb 0 v) v x (stack sl sh n)
         → e′ ≡ cond (b x) (x + 1) e
         → Walked f b w sl₀ sh₀ ls₀ rs₀ es₀ sl′ sh′ ls′ rs′ es′ n′ m′ e′ (x + 1)
     unfolding reach
-    walk-more v k r sl′ sh′ ls′ rs′ es′ n′ m′ e′ ev c er q₁ q₂ q₃ q₄ q₅ out kept in′ sup = record {
+    walk-more v k r sl′ sh′ ls′ rs′ es′ n′ m′ e′ ev c er q₁ q₂ q₃ q₄ q₅ out in′ sup = record {
       upto = omega arith;
-      long-sl = q₁ ∙ i .long-sl;
-      long-sh = q₂ ∙ i .long-sh;
-      long-l = q₃ ∙ i .long-l;
-      long-r = q₄ ∙ i .long-r;
-      long-h = q₅ ∙ i .long-h;
+      long = (q₁ ∙ i .long .0, q₂ ∙ i .long .1, q₃ ∙ i .long .2, q₄ ∙ i .long .3, q₅ ∙ i .long .4);
       held = rw (in′, ev, i .held, add-one) (sym (push-law f x));
       written =
           rw (out, ← leaving-cut sl sh n v k c e r, i .written, i .held, i .support, er, ev, add-one)
           (sym (ended-law f b x));
-      rest =
-          rest-more (longer m m′ (entryAt ls rs es) (entryAt ls′ rs′ es′) (leaving v e r (span (stairAt sl sh) k (n - k))) out)
-          (i .rest) kept;
       support = rw (sup, i .support, add-one);
     }
 
--- ---- cells without a height: no stair stands over them, nothing ends at them, and they have no support
-
-module _ (f : ℕ → ℕ) (b : ℕ → Bool) (bare : (k : ℕ) → f k ≡ 0 → b k ≡ false) where
-  no-stairs : (x : ℕ) → f x ≡ 0 → stairs f (suc x) ≡ []
-  no-stairs x e = rw (push-law f x, e, le-ltb 0 0 (le-refl 0)) (pushed-zero x (stairs f x))
-
-  idle : (x j : ℕ) → ((k : ℕ) → x ≤ k → k < x + suc j → f k ≡ 0) → (ended f b (x + suc j) ≡ ended f b (suc x)) × (reach b (x + suc j) ≡ reach b (suc x))
-  unfolding leaving reach
-  idle x zero h = let e : x + suc zero ≡ suc x = omega arith in (ap (ended f b) e, ap (reach b) e)
-  idle x (suc j) h =
-      let e : x + suc (suc j) ≡ suc (x + suc j) = omega arith in
-      let g : x + suc j ≡ suc (x + j) = omega arith in
-      let none : stairs f (x + suc j) ≡ [] = ap (stairs f) g ∙ no-stairs (x + j) (h (x + j) (omega arith) (omega arith)) in
-      let last : b (x + suc j) ≡ false = bare (x + suc j) (h (x + suc j) (omega arith) (omega arith)) in
-      let r = idle x j (λ k p q. h k p (omega arith)) in
-      let ended-here : ended f b (suc (x + suc j)) ≡ ended f b (x + suc j) =
-      ended-law f b (x + suc j) ∙ ap (λ t. ended f b (x + suc j) ++ leaving (f (x + suc j)) (reach b (x + suc j)) (x + suc j - 1) t) none ∙ append-nil (ended f b (x + suc j)) in
-      let reach-here : reach b (suc (x + suc j)) ≡ reach b (x + suc j) = ap (λ t. cond t (suc (x + suc j)) (reach b (x + suc j))) last in
-      (ap (ended f b) e ∙ ended-here ∙ r .0, ap (reach b) e ∙ reach-here ∙ r .1)
-
-  -- THE WALK MAY JUMP over d cells without a height, the first of which it has seen
-  pub walk-jump : {w : ℕ} {sl₀ sh₀ ls₀ rs₀ es₀ sl sh ls rs es : List ℕ} {n m e x : ℕ} → Walked f b w sl₀ sh₀ ls₀ rs₀ es₀ sl sh ls rs es n m e (x + 1) → (d : ℕ)
-      → 1 ≤ d → x + d ≤ w + 1 → ((k : ℕ) → x ≤ k → k < x + d → f k ≡ 0) → Walked f b w sl₀ sh₀ ls₀ rs₀ es₀ sl sh ls rs es n m e (x + d)
-  walk-jump {x = x} i d one inside over =
-      let q : x + suc (d - 1) ≡ x + d = omega arith in
-      let z : x + 1 ≡ suc x = omega arith in
-      let y : x + d ≡ suc (x + (d - 1)) = omega arith in
-      let r = idle x (d - 1) (λ k u v. over k u (omega arith)) in
-      let first : stairs f (x + 1) ≡ [] = ap (stairs f) z ∙ no-stairs x (over x (le-refl x) (omega arith)) in
-      let last : stairs f (x + d) ≡ [] = ap (stairs f) y ∙ no-stairs (x + (d - 1)) (over (x + (d - 1)) (omega arith) (omega arith)) in
-      record {
-        upto = inside;
-        long-sl = i .long-sl;
-        long-sh = i .long-sh;
-        long-l = i .long-l;
-        long-r = i .long-r;
-        long-h = i .long-h;
-        held = i .held ∙ first ∙ sym last;
-        written = i .written ∙ ap (ended f b) z ∙ sym (r .0) ∙ ap (ended f b) q;
-        rest = i .rest;
-        support = i .support ∙ ap (reach b) z ∙ sym (r .1) ∙ ap (reach b) q;
-      }
+-- over a cell without a height no stair stands
+no-stairs : (f : ℕ → ℕ) (x : ℕ) → f x ≡ 0 → stairs f (suc x) ≡ []
+no-stairs f x e = rw (push-law f x, e, le-ltb 0 0 (le-refl 0)) (pushed-zero x (stairs f x))
 
 -- ---- as far as there is support
 
-pub reach-here : (b : ℕ → Bool) (c : ℕ) → 0 < c → b (c - 1) ≡ true → reach b c ≡ c
+pub reach-by : (b : ℕ → Bool) (c : ℕ) → 0 < c → (t : Bool) → b (c - 1) ≡ t → reach b c ≡ cond t c (reach b (c - 1))
 unfolding reach
-reach-here b zero h e = absurd (omega arith)
-reach-here b (suc c) h e = let q : suc c - 1 ≡ c = omega arith in ap (λ t. cond t (suc c) (reach b c)) (ap b (sym q) ∙ e)
-
-pub reach-back : (b : ℕ → Bool) (c : ℕ) → 0 < c → b (c - 1) ≡ false → reach b c ≡ reach b (c - 1)
-unfolding reach
-reach-back b zero h e = absurd (omega arith)
-reach-back b (suc c) h e = let q : suc c - 1 ≡ c = omega arith in ap (λ t. cond t (suc c) (reach b c)) (ap b (sym q) ∙ e) ∙ ap (reach b) (sym q)
+reach-by b zero h t e = absurd (omega arith)
+reach-by b (suc c) h t e = rw (← e, sub-one)
 
 -- ---- the highest stair is as high as the cell before
 
@@ -210,11 +138,11 @@ pub record Top (sh : List ℕ) (n a : ℕ) : Type 0 where
   pub none : a ≡ 0 → n ≡ 0
   pub some : 0 < a → (1 ≤ n) × (getD sh (n - 1) 0 ≡ a)
 
-stack-top : (f : ℕ → ℕ) (b : ℕ → Bool) → ((k : ℕ) → f k ≡ 0 → b k ≡ false) → (sl sh : List ℕ) (n x : ℕ) → stack sl sh n ≡ stairs f x → Top sh n (before f x)
+stack-top : (f : ℕ → ℕ) (sl sh : List ℕ) (n x : ℕ) → stack sl sh n ≡ stairs f x → Top sh n (before f x)
 unfolding before stairsFrom
-stack-top f b bare sl sh n zero e = record { none = λ _. sym (length-span (stairAt sl sh) 0 n) ∙ ap length e; some = λ h. absurd (omega arith) }
-stack-top f b bare sl sh n (suc p) e = record {
-  none = λ z. sym (length-span (stairAt sl sh) 0 n) ∙ ap length (e ∙ no-stairs f b bare p z);
+stack-top f sl sh n zero e = record { none = λ _. sym (length-span (stairAt sl sh) 0 n) ∙ ap length e; some = λ h. absurd (omega arith) }
+stack-top f sl sh n (suc p) e = record {
+  none = λ z. sym (length-span (stairAt sl sh) 0 n) ∙ ap length (e ∙ no-stairs f p z);
   some = λ h.
       let t = top-of (stairAt sl sh) (f p) p 0 n (stairs f p) (e ∙ push-law f p ∙ ap (λ c. pushed c (f p) p (stairs f p)) (lt-ltb 0 (f p) h)) in
       let q : 0 + n - 1 ≡ n - 1 = omega arith in
@@ -226,10 +154,7 @@ stack-top f b bare sl sh n (suc p) e = record {
 module _ {f : ℕ → ℕ} {b : ℕ → Bool} (bare : (k : ℕ) → f k ≡ 0 → b k ≡ false)
     {w : ℕ} {sl₀ sh₀ ls₀ rs₀ es₀ sl sh ls rs es : List ℕ} {n m x : ℕ} (i : Walked f b w sl₀ sh₀ ls₀ rs₀ es₀ sl sh ls rs es n m (reach b x) x) where
   top : Top sh n (before f x)
-  top = stack-top f b bare sl sh n x (i .held)
-
-  kept : Rest ls rs es ls rs es m
-  kept = record { of-lefts = refl; of-rights = refl; of-heights = refl }
+  top = stack-top f sl sh n x (i .held)
 
   next-reach : reach b (x + 1) ≡ cond (b x) (x + 1) (reach b x)
   unfolding reach
@@ -237,20 +162,11 @@ module _ {f : ℕ → ℕ} {b : ℕ → Bool} (bare : (k : ℕ) → f k ≡ 0 �
 
   -- above all stairs
   pub cut-above : (v : ℕ) → before f x < v → CutAt sh n v n
-  cut-above v h = record {
-    within = le-refl n;
-    low = λ j l.
-        ⊎-elim
-        (λ (p : 0 < before f x).
-        let t = top .some p in
-        ⊎-elim
-        (λ (q : j < n - 1). omega (arith, rise i j (n - 1) q (omega arith), t .1))
-        (λ (q : n - 1 ≤ j). let e : n - 1 ≡ j = omega arith in omega (arith, ap (λ k. getD sh k 0) e, t .1))
-        (cmp j (n - 1)))
-        (λ (p : before f x ≤ 0). absurd (omega (arith, top .none (omega arith))))
-        (cmp 0 (before f x));
-    high = λ l. absurd (omega arith);
-  }
+  cut-above v h =
+      ⊎-elim
+      (λ (p : 0 < before f x). let t = top .some p in cut-found sh n v n (rise i) (le-refl n) (t .0) (λ l. absurd (omega arith)) (omega arith))
+      (λ (p : before f x ≤ 0). cut-none sh n v n (omega (arith, top .none (omega arith))) (λ l. absurd (omega arith)))
+      (lt-or-le 0 (before f x))
 
   -- it rises: a stair enters
   pub walk-rise : x ≤ w → (sl′ sh′ : List ℕ) (n′ v : ℕ) → v ≡ f x → before f x < v → length sl′ ≡ length sl → length sh′ ≡ length sh → stack sl′ sh′ n′ ≡ pushed (ltb 0 v) v x (stack sl sh n)
@@ -258,19 +174,19 @@ module _ {f : ℕ → ℕ} {b : ℕ → Bool} (bare : (k : ℕ) → f k ≡ 0 �
   unfolding leaving
   walk-rise h sl′ sh′ n′ v ev up q₁ q₂ q =
       walk-more i h v n (x - 1) sl′ sh′ ls rs es n′ m (reach b (x + 1)) ev (cut-above v up) refl q₁ q₂ refl refl refl
-      (rw (span-end (stairAt sl sh) n n (le-refl n)) (sym (append-nil (rows ls rs es m)))) kept q next-reach
+      (rw (span-end (stairAt sl sh) n n (le-refl n)) (sym (append-nil (rows ls rs es m)))) q next-reach
 
   -- it stays: nothing happens
   pub walk-stay : x ≤ w → f x ≡ before f x → Walked f b w sl₀ sh₀ ls₀ rs₀ es₀ sl sh ls rs es n m (reach b (x + 1)) (x + 1)
   unfolding leaving
-  walk-stay h e = ⊎-elim some none (cmp 0 (before f x))
+  walk-stay h e = ⊎-elim some none (lt-or-le 0 (before f x))
     where
       none : before f x ≤ 0 → Walked f b w sl₀ sh₀ ls₀ rs₀ es₀ sl sh ls rs es n m (reach b (x + 1)) (x + 1)
       none p =
           let z : n ≡ 0 = top .none (omega arith) in
           let c = cut-none sh n (f x) 0 (omega arith) (λ l. absurd (omega arith)) in
           walk-more i h (f x) 0 (x - 1) sl sh ls rs es n m (reach b (x + 1)) refl c refl refl refl refl refl refl
-          (rw (span-end (stairAt sl sh) 0 n (omega arith)) (sym (append-nil (rows ls rs es m)))) kept
+          (rw (span-end (stairAt sl sh) 0 n (omega arith)) (sym (append-nil (rows ls rs es m))))
           (ap (stack sl sh) z ∙ push-none sl sh n (f x) 0 x c (omega arith)) next-reach
 
       some : 0 < before f x → Walked f b w sl₀ sh₀ ls₀ rs₀ es₀ sl sh ls rs es n m (reach b (x + 1)) (x + 1)
@@ -282,7 +198,7 @@ module _ {f : ℕ → ℕ} {b : ℕ → Bool} (bare : (k : ℕ) → f k ≡ 0 �
           let high : getD sh k 0 ≡ v = t .1 ∙ sym e in
           let c : CutAt sh n v k = record { within = omega arith; low = λ j l. omega (arith, rise i j k l (omega arith)); high = λ _. omega arith } in
           walk-more i h v k (x - 1) sl sh ls rs es n m (reach b (x + 1)) refl c refl refl refl refl refl refl
-          (rw (span-next (stairAt sl sh) k n (omega arith), none-leaves v (reach b x) (x - 1) (stairAt sl sh k) (span (stairAt sl sh) (k + 1) (n - (k + 1))) (omega arith), span-end (stairAt sl sh) (k + 1) n (omega arith)) (sym (append-nil (rows ls rs es m)))) kept
+          (rw (span-next (stairAt sl sh) k n (omega arith), none-leaves v (reach b x) (x - 1) (stairAt sl sh k) (span (stairAt sl sh) (k + 1) (n - (k + 1))) (omega arith), span-end (stairAt sl sh) (k + 1) n (omega arith)) (sym (append-nil (rows ls rs es m))))
           (ap (stack sl sh) (sym q) ∙ span-more (stairAt sl sh) k ∙ ap (λ a. stack sl sh k ++ (record { left = getD sl k 0; high = a } ∷ [])) high
           ∙ sym (ap (λ d. pushed d v x (stack sl sh n)) (lt-ltb 0 v (omega arith)) ∙ pushed-there sl sh n v k c x ∙ ap (λ d. stack sl sh k ++ (record { left = cond d (getD sl k 0) x; high = v } ∷ [])) (lt-ltb k n (omega arith)))) next-reach
 
@@ -322,15 +238,6 @@ turns-one : (f : ℕ → ℕ) (x : ℕ) → f x < before f x → turns f (x + 1)
 unfolding turns
 turns-one f x h = rw (add-one, lt-ltb (f x) (before f x) h)
 
--- over cells without a height it does not fall
-turns-still : (f : ℕ → ℕ) (x j : ℕ) → ((k : ℕ) → x ≤ k → k < x + 1 + j → f k ≡ 0) → turns f (x + 1 + j) ≡ turns f (x + 1)
-turns-still f x zero h = ap (turns f) (let q : x + 1 + 0 ≡ x + 1 = omega arith in q)
-turns-still f x (suc j) h =
-    let q : x + 1 + suc j ≡ x + j + 1 + 1 = omega arith in
-    let p : x + 1 + j ≡ x + j + 1 = omega arith in
-    let here : before f (x + j + 1) ≡ 0 = before-next f (x + j) ∙ h (x + j) (omega arith) (omega arith) in
-    ap (turns f) q ∙ turns-not f (x + j + 1) (omega (arith, here)) ∙ ap (turns f) (sym p) ∙ turns-still f x j (λ k a b. h k a (omega arith))
-
 pub before-low : (f : ℕ → ℕ) (n : ℕ) → ((k : ℕ) → f k ≤ n) → (x : ℕ) → before f x ≤ n
 unfolding before
 before-low f n h zero = omega arith
@@ -338,7 +245,7 @@ before-low f n h (suc x) = h x
 
 -- one cell more that is empty
 open-more : (f : ℕ → ℕ) (lo x : ℕ) → Open f lo x → (f x ≡ 0 → ⊥) → Open f lo (x + 1)
-open-more f lo x o n c p q = ⊎-elim (λ (l : c < x). o c p l) (λ (l : x ≤ c). λ z. n (ap f (let e : x ≡ c = omega arith in e) ∙ z)) (cmp c x)
+open-more f lo x o n c p q = ⊎-elim (λ (l : c < x). o c p l) (λ (l : x ≤ c). λ z. n (ap f (let e : x ≡ c = omega arith in e) ∙ z)) (lt-or-le c x)
 
 open-none : (f : ℕ → ℕ) (x : ℕ) → Open f x x
 open-none f x c p q = absurd (omega arith)
@@ -347,7 +254,7 @@ open-none f x c p q = absurd (omega arith)
 open-here : (f : ℕ → ℕ) (lo x : ℕ) → before f x ≡ 0 → lo ≤ x → Open f lo x → lo ≡ x
 unfolding before
 open-here f lo zero z h o = omega arith
-open-here f lo (suc p) z h o = ⊎-elim (λ (l : lo < suc p). absurd (o p (omega arith) (omega arith) z)) (λ (l : suc p ≤ lo). omega arith) (cmp lo (suc p))
+open-here f lo (suc p) z h o = ⊎-elim (λ (l : lo < suc p). absurd (o p (omega arith) (omega arith) z)) (λ (l : suc p ≤ lo). omega arith) (lt-or-le lo (suc p))
 
 module _ {f : ℕ → ℕ} {b : ℕ → Bool} (bare : (k : ℕ) → f k ≡ 0 → b k ≡ false)
     {w : ℕ} {sl₀ sh₀ ls₀ rs₀ es₀ sl sh ls rs es : List ℕ} {n m k e u lo x : ℕ} (i : Going f b w sl₀ sh₀ ls₀ rs₀ es₀ sl sh ls rs es n m k e u lo x) where
@@ -355,101 +262,87 @@ module _ {f : ℕ → ℕ} {b : ℕ → Bool} (bare : (k : ℕ) → f k ≡ 0 �
   no-reach z = next-reach bare (i .walked) ∙ ap (λ t. cond t (x + 1) (reach b x)) (bare x z)
 
   module _ (h : x < w) where
-    pub go-stay : f x ≡ u → (f x ≡ 0 → ⊥) → Going f b w sl₀ sh₀ ls₀ rs₀ es₀ sl sh ls rs es n m k e u lo (x + 1)
-    go-stay q ne = record {
-      walked = walk-stay bare (i .walked) (i .inside) (q ∙ i .last);
+    -- an empty cell at which the height does not fall
+    go-on : {sl′ sh′ : List ℕ} {n′ v : ℕ} → Walked f b w sl₀ sh₀ ls₀ rs₀ es₀ sl′ sh′ ls rs es n′ m (reach b (x + 1)) (x + 1) → v ≡ f x → u ≤ v → (f x ≡ 0 → ⊥)
+        → Going f b w sl₀ sh₀ ls₀ rs₀ es₀ sl′ sh′ ls rs es n′ m k e v lo (x + 1)
+    go-on walk ev up ne = record {
+      walked = walk;
       inside = omega arith;
-      last = sym q ∙ sym (before-next f x);
+      last = ev ∙ sym (before-next f x);
       fallen = i .fallen ∙ sym (turns-not f x (omega (arith, i .last)));
       settled = i .settled;
       from = omega (arith, i .from);
       empty = open-more f lo x (i .empty) ne;
     }
 
+    pub go-stay : f x ≡ u → (f x ≡ 0 → ⊥) → Going f b w sl₀ sh₀ ls₀ rs₀ es₀ sl sh ls rs es n m k e u lo (x + 1)
+    go-stay q ne = go-on (walk-stay bare (i .walked) (i .inside) (q ∙ i .last)) (sym q) (le-refl u) ne
+
     pub go-rise : (sl′ sh′ : List ℕ) (n′ v : ℕ) → v ≡ f x → u < v → length sl′ ≡ length sl → length sh′ ≡ length sh → stack sl′ sh′ n′ ≡ pushed (ltb 0 v) v x (stack sl sh n)
         → Going f b w sl₀ sh₀ ls₀ rs₀ es₀ sl′ sh′ ls rs es n′ m k e v lo (x + 1)
-    go-rise sl′ sh′ n′ v ev up q₁ q₂ q = record {
-      walked = walk-rise bare (i .walked) (i .inside) sl′ sh′ n′ v ev (omega (arith, i .last)) q₁ q₂ q;
+    go-rise sl′ sh′ n′ v ev up q₁ q₂ q =
+        go-on (walk-rise bare (i .walked) (i .inside) sl′ sh′ n′ v ev (omega (arith, i .last)) q₁ q₂ q) ev (omega arith) (λ z. omega arith)
+
+    -- a cell without a height behind another, or at the edge: it stays, and the empty cells begin behind it
+    pub go-taken : u ≡ 0 → f x ≡ 0 → Going f b w sl₀ sh₀ ls₀ rs₀ es₀ sl sh ls rs es n m k e u (x + 1) (x + 1)
+    go-taken z q = record {
+      walked = walk-stay bare (i .walked) (i .inside) (q ∙ sym z ∙ i .last);
       inside = omega arith;
-      last = ev ∙ sym (before-next f x);
+      last = z ∙ sym (before-next f x ∙ q);
       fallen = i .fallen ∙ sym (turns-not f x (omega (arith, i .last)));
-      settled = i .settled;
-      from = omega (arith, i .from);
-      empty = open-more f lo x (i .empty) (λ z. omega arith);
+      settled = i .settled ∙ ap (reach b) (open-here f lo x (sym (i .last) ∙ z) (i .from) (i .empty)) ∙ sym (no-reach q);
+      from = le-refl (x + 1);
+      empty = open-none f (x + 1);
     }
-
-    pub go-skip : u ≡ 0 → (d : ℕ) → 1 ≤ d → x + d ≤ w → ((k : ℕ) → x ≤ k → k < x + d → f k ≡ 0) → Going f b w sl₀ sh₀ ls₀ rs₀ es₀ sl sh ls rs es n m k e u (x + d) (x + d)
-    go-skip z d one inside over = record {
-      walked = subst (λ k. Walked f b w sl₀ sh₀ ls₀ rs₀ es₀ sl sh ls rs es n m k (x + d)) (jumped .support) jumped;
-      inside = inside;
-      last = z ∙ sym (ap (before f) q ∙ before-next f (x + (d - 1)) ∙ over (x + (d - 1)) (omega arith) (omega arith));
-      fallen = i .fallen ∙ sym (turns-not f x (omega arith)) ∙ sym (ap (turns f) q₁ ∙ turns-still f x (d - 1) (λ a p r. over a p (omega arith)));
-      settled = i .settled ∙ ap (reach b) (open-here f lo x (sym (i .last) ∙ z) (i .from) (i .empty)) ∙ sym (no-reach first) ∙ jumped .support;
-      from = le-refl (x + d);
-      empty = open-none f (x + d);
-    }
-      where
-        first : f x ≡ 0
-        first = over x (le-refl x) (omega arith)
-
-        q : x + d ≡ x + (d - 1) + 1
-        q = omega arith
-
-        q₁ : x + d ≡ x + 1 + (d - 1)
-        q₁ = omega arith
-
-        jumped : Walked f b w sl₀ sh₀ ls₀ rs₀ es₀ sl sh ls rs es n m (reach b (x + 1)) (x + d)
-        jumped = walk-jump f b bare (walk-stay bare (i .walked) (i .inside) (first ∙ sym z ∙ i .last)) d one (omega arith) over
 
     pub go-fall : (v j r e′ lo′ : ℕ) (sl′ sh′ ls′ rs′ es′ : List ℕ) (n′ m′ : ℕ) → v ≡ f x → v < u → CutAt sh n v j → r ≡ x - 1
         → length sl′ ≡ length sl → length sh′ ≡ length sh → length ls′ ≡ length ls → length rs′ ≡ length rs → length es′ ≡ length es → e′ ≡ reach b x
         → rows ls′ rs′ es′ m′ ≡ rows ls rs es m ++ leaving v e′ r (span (stairAt sl sh) j (n - j))
-        → Rest ls rs es ls′ rs′ es′ m′
         → stack sl′ sh′ n′ ≡ pushed (ltb 0 v) v x (stack sl sh n)
         → lo′ ≡ cond (eqb v 0) (x + 1) x
         → Going f b w sl₀ sh₀ ls₀ rs₀ es₀ sl′ sh′ ls′ rs′ es′ n′ m′ (k + 1) e′ v lo′ (x + 1)
-    go-fall v j r e′ lo′ sl′ sh′ ls′ rs′ es′ n′ m′ ev down c er q₁ q₂ q₃ q₄ q₅ ee out kept′ in′ el = go (eqb v 0) refl
+    go-fall v j r e′ lo′ sl′ sh′ ls′ rs′ es′ n′ m′ ev down c er q₁ q₂ q₃ q₄ q₅ ee out in′ el = record {
+      walked =
+          walk-more (i .walked) (i .inside) v j r sl′ sh′ ls′ rs′ es′ n′ m′ (reach b (x + 1)) ev c er q₁ q₂ q₃ q₄ q₅
+          (out ∙ ap (λ a. rows ls rs es m ++ leaving v a r (span (stairAt sl sh) j (n - j))) ee) in′ (next-reach bare (i .walked));
+      inside = omega arith;
+      last = ev ∙ sym (before-next f x);
+      fallen = ap (λ a. a + 1) (i .fallen) ∙ sym (turns-one f x (omega (arith, i .last)));
+      settled = ee ∙ anew .0;
+      from = anew .1;
+      empty = anew .2;
+    }
       where
-        there : Walked f b w sl₀ sh₀ ls₀ rs₀ es₀ sl′ sh′ ls′ rs′ es′ n′ m′ (reach b (x + 1)) (x + 1)
-        there =
-            walk-more (i .walked) (i .inside) v j r sl′ sh′ ls′ rs′ es′ n′ m′ (reach b (x + 1)) ev c er q₁ q₂ q₃ q₄ q₅
-            (out ∙ ap (λ a. rows ls rs es m ++ leaving v a r (span (stairAt sl sh) j (n - j))) ee) kept′ in′ (next-reach bare (i .walked))
-
-        go : (t : Bool) → eqb v 0 ≡ t → Going f b w sl₀ sh₀ ls₀ rs₀ es₀ sl′ sh′ ls′ rs′ es′ n′ m′ (k + 1) e′ v lo′ (x + 1)
-        go true t =
-            let l : lo′ ≡ x + 1 = el ∙ ap (λ a. cond a (x + 1) x) t in
-            record {
-              walked = there;
-              inside = omega arith;
-              last = ev ∙ sym (before-next f x);
-              fallen = ap (λ a. a + 1) (i .fallen) ∙ sym (turns-one f x (omega (arith, i .last)));
-              settled = ee ∙ sym (no-reach (sym ev ∙ eqb-true v 0 t)) ∙ ap (reach b) (sym l);
-              from = omega arith;
-              empty = subst (λ a. Open f a (x + 1)) (sym l) (open-none f (x + 1));
-            }
-        go false t =
-            let l : lo′ ≡ x = el ∙ ap (λ a. cond a (x + 1) x) t in
-            record {
-              walked = there;
-              inside = omega arith;
-              last = ev ∙ sym (before-next f x);
-              fallen = ap (λ a. a + 1) (i .fallen) ∙ sym (turns-one f x (omega (arith, i .last)));
-              settled = ee ∙ ap (reach b) (sym l);
-              from = omega arith;
-              empty = subst (λ a. Open f a (x + 1)) (sym l) (open-more f x x (open-none f x) (λ z. eqb-false v 0 t (ev ∙ z)));
-            }
+        -- from lo′ on all are empty, and before it there is no more support than at x
+        anew : (reach b x ≡ reach b lo′) × (lo′ ≤ x + 1) × Open f lo′ (x + 1)
+        anew =
+            ⊎-elim
+            (λ (t : eqb v 0 ≡ true). rw (el, t) (sym (no-reach (sym ev ∙ eqb-true v 0 t)), le-refl (x + 1), open-none f (x + 1)))
+            (λ (t : eqb v 0 ≡ false). rw (el, t) (refl, omega arith, open-more f x x (open-none f x) (λ z. eqb-false v 0 t (ev ∙ z))))
+            (decide (eqb v 0))
 
   -- past the last column all leave
   pub go-end : w ≤ x → f w ≡ 0 → (r e′ m′ : ℕ) (ls′ rs′ es′ : List ℕ) → r ≡ w - 1 → e′ ≡ reach b w
       → length ls′ ≡ length ls → length rs′ ≡ length rs → length es′ ≡ length es
-      → rows ls′ rs′ es′ m′ ≡ rows ls rs es m ++ leaving 0 e′ r (span (stairAt sl sh) 0 (n - 0)) → Rest ls rs es ls′ rs′ es′ m′
+      → rows ls′ rs′ es′ m′ ≡ rows ls rs es m ++ leaving 0 e′ r (span (stairAt sl sh) 0 (n - 0))
       → (l : ℕ) → l ≡ cond (ltb 0 u) 1 0
-      → (rows ls′ rs′ es′ m′ ≡ rowEntries f b w) × Rest ls₀ rs₀ es₀ ls′ rs′ es′ m′ × (k + l ≡ turns f (w + 1))
+      → (rows ls′ rs′ es′ m′ ≡ rowEntries f b w) × (k + l ≡ turns f (w + 1))
   unfolding turns
-  go-end h z r e′ m′ ls′ rs′ es′ er ee q₃ q₄ q₅ out kept′ l el =
+  go-end h z r e′ m′ ls′ rs′ es′ er ee q₃ q₄ q₅ out l el =
       let q : x ≡ w = omega (arith, i .inside) in
       let c = cut-none sh n 0 0 (omega arith) (λ l. omega arith) in
       let ends =
       walk-more (i .walked) (i .inside) 0 0 r sl sh ls′ rs′ es′ 0 m′ (reach b (x + 1)) (sym (ap f q ∙ z)) c (er ∙ ap (λ a. a - 1) (sym q)) refl refl q₃ q₄ q₅
-      (out ∙ ap (λ a. rows ls rs es m ++ leaving 0 a r (span (stairAt sl sh) 0 (n - 0))) (ee ∙ ap (reach b) (sym q))) kept′ (push-none sl sh n 0 0 x c refl) (next-reach bare (i .walked)) in
-      (walk-end ends (omega arith), ends .rest, rw (el, i .fallen, i .last, q, add-one, z))
+      (out ∙ ap (λ a. rows ls rs es m ++ leaving 0 a r (span (stairAt sl sh) 0 (n - 0))) (ee ∙ ap (reach b) (sym q))) (push-none sl sh n 0 0 x c refl) (next-reach bare (i .walked)) in
+      (walk-end ends (omega arith), rw (el, i .fallen, i .last, q, add-one, z))
+
+-- THE WALK MAY JUMP over d cells without a height
+pub go-skip : {f : ℕ → ℕ} {b : ℕ → Bool} (bare : (k : ℕ) → f k ≡ 0 → b k ≡ false)
+    {w : ℕ} {sl₀ sh₀ ls₀ rs₀ es₀ sl sh ls rs es : List ℕ} {n m k e u lo x : ℕ} → Going f b w sl₀ sh₀ ls₀ rs₀ es₀ sl sh ls rs es n m k e u lo x
+    → u ≡ 0 → (d : ℕ) → 1 ≤ d → x + d ≤ w → ((k : ℕ) → x ≤ k → k < x + d → f k ≡ 0) → Going f b w sl₀ sh₀ ls₀ rs₀ es₀ sl sh ls rs es n m k e u (x + d) (x + d)
+go-skip bare i z zero one inside over = absurd (omega arith)
+go-skip bare {x = x} i z (suc zero) one inside over = go-taken bare i (omega arith) z (over x (le-refl x) (omega arith))
+go-skip {f} {b} bare {w} {sl₀} {sh₀} {ls₀} {rs₀} {es₀} {sl} {sh} {ls} {rs} {es} {n} {m} {k} {e} {u} {lo} {x} i z (suc (suc j)) one inside over =
+    let q : x + 1 + suc j ≡ x + suc (suc j) = omega arith in
+    subst (λ a. Going f b w sl₀ sh₀ ls₀ rs₀ es₀ sl sh ls rs es n m k e u a a) q
+    (go-skip bare (go-taken bare i (omega arith) z (over x (le-refl x) (omega arith))) z (suc j) (omega arith) (omega arith) (λ c p r. over c (omega arith) (omega arith)))

@@ -1,7 +1,7 @@
 -- Records written one after the other into a list: what is before them and behind them stays. Assumes nothing.
-use mathlib.Core.Path.{_≡_, refl, sym, ap, ap₂, _∙_, subst}
+use mathlib.Core.Path.{_≡_, refl, sym, ap, ap₂, _∙_}
 use mathlib.Core.Bool.{Bool}
-use mathlib.Core.List.{List, [], _∷_, _++_, append-nil, append-assoc, map, map-append}
+use mathlib.Core.List.{List, [], _∷_, _++_, append-assoc, map, map-append}
 use Prim.Native.Nat.{ℕ, zero, suc, _+_, _-_, _*_, _≤_, _<_}
 use native.Mathlib.Nat.{add-zero, mul-le-mul}
 use native.Mathlib.Numerals.{add-one}
@@ -12,13 +12,11 @@ use lib.Seq.{take-at, drop-append-add, drop-drop}
 use Rattle.rules.specs.Empties.{entryRecord, entryRecords}
 use Rattle.rules.specs.Tests.{chain}
 use Rattle.rules.specs.Empties.{entries}
-use Rattle.rules.specs.Surface.{occupied}
-use Rattle.rules.specs.Calls.{roomAfter}
 use Rattle.rules.specs.declared.Rect.{Rect}
 use Rattle.listing.specs.Row.{Entry, entry, entryAt, rows, span}
 use Rattle.listing.specs.Listed.{entryRect, entriesIn, rectsIn, listed, written, recordsIn, recordsOf, Drawn}
 use Rattle.listing.proofs.Spans.{length-span, span-more}
-use Rattle.listing.proofs.List.{entries-listed}
+use Rattle.listing.proofs.ListLaws.{entries-listed}
 
 pub written-none : (at : ℕ) (l : List ℕ) → l ≡ written at [] l
 unfolding written
@@ -80,10 +78,6 @@ recorded-more y ls rs hs i =
     ∙ ap entryRecords (map-append (entryRect y) (rows ls rs hs i) (entryAt ls rs hs i ∷ []))
     ∙ records-append (map (entryRect y) (rows ls rs hs i)) (entryRect y (entryAt ls rs hs i) ∷ [])
 
-pub recorded-none : (y : ℕ) (ls rs hs : List ℕ) → recorded y ls rs hs 0 ≡ []
-unfolding entryRecords span
-recorded-none y ls rs hs = refl
-
 pub recorded-length : (y : ℕ) (ls rs hs : List ℕ) (i : ℕ) → length (recorded y ls rs hs i) ≡ 8 * i
 recorded-length y ls rs hs i =
     records-length (map (entryRect y) (rows ls rs hs i)) ∙ ap (λ n. 8 * n) (length-map (rows ls rs hs i) (entryRect y) ∙ length-span (entryAt ls rs hs) 0 i)
@@ -104,7 +98,7 @@ pub record Recorded (y at n : ℕ) (ls rs hs room₀ room : List ℕ) (i o : ℕ
 
 module _ (y at n : ℕ) (ls rs hs room₀ : List ℕ) (fits : at + 8 * n ≤ length room₀) where
   pub record-none : Recorded y at n ls rs hs room₀ room₀ 0 at
-  record-none = record { upto = omega arith; next = omega arith; bytes = written-none at room₀ ∙ ap (λ r. written at r room₀) (sym (recorded-none y ls rs hs)) }
+  record-none = record { upto = omega arith; next = omega arith; bytes = unfold entryRecords span in (written-none at room₀) }
 
   pub record-long : (room : List ℕ) (i o : ℕ) → Recorded y at n ls rs hs room₀ room i o → length room ≡ length room₀
   record-long room i o r =
@@ -154,12 +148,12 @@ module _ (occ : ℕ → ℕ → Bool) (W H : ℕ) where
   listed-le y zero = let q : y + 0 ≡ y = omega arith in rw q (omega arith)
   listed-le y (suc d) = let q : y + suc d ≡ y + d + 1 = omega arith in rw q (omega (arith, listed-le y d, listed-grows (y + d)))
 
-  -- row y's records fit where the whole list does
-  pub next-fits : (y : ℕ) → y < H → length (recordsOf occ W H y) + length (recordsIn occ W H y) ≤ 8 * length (entries occ W H)
-  next-fits y h =
-      let q : y + 1 + (H - (y + 1)) ≡ H = omega arith in
-      let whole : length (listed occ W H (y + 1 + (H - (y + 1)))) ≡ length (entries occ W H) = ap (λ n. length (listed occ W H n)) q ∙ ap length (sym (entries-listed occ W H)) in
-      omega (arith, records-length (listed occ W H y), records-length (rectsIn occ W H y), listed-grows y, listed-le (y + 1) (H - (y + 1)))
+  -- the records of the rows above y fit where the whole list does
+  low-fits : (y : ℕ) → y ≤ H → length (recordsOf occ W H y) ≤ 8 * length (entries occ W H)
+  low-fits y h =
+      let q : y + (H - y) ≡ H = omega arith in
+      let whole : length (listed occ W H (y + (H - y))) ≡ length (entries occ W H) = ap (λ n. length (listed occ W H n)) q ∙ ap length (sym (entries-listed occ W H)) in
+      omega (arith, records-length (listed occ W H y), listed-le y (H - y))
 
   -- the records of the rows above y stand at the start of the room
   pub record Wrote (room₀ room : List ℕ) (y at : ℕ) : Type 0 where
@@ -180,17 +174,12 @@ module _ (occ : ℕ → ℕ → Bool) (W H : ℕ) where
     all-there : length (recordsOf occ W H H) ≡ 8 * length (entries occ W H)
     all-there = records-length (listed occ W H H) ∙ ap (λ (l : List Rect). 8 * length l) (sym (entries-listed occ W H))
 
-    low-fits : (y : ℕ) → y ≤ H → length (recordsOf occ W H y) ≤ length room₀
-    low-fits y h =
-        let q : y + (H - y) ≡ H = omega arith in
-        let whole : length (listed occ W H (y + (H - y))) ≡ length (entries occ W H) = ap (λ n. length (listed occ W H n)) q ∙ ap length (sym (entries-listed occ W H)) in
-        omega (arith, records-length (listed occ W H y), listed-le y (H - y))
-
     pub wrote-long : (room : List ℕ) (y at : ℕ) → Wrote room₀ room y at → length room ≡ length room₀
     wrote-long room y at w = ap length (w .bytes) ∙ length-written 0 (recordsOf occ W H y) room₀ (omega (arith, low-fits y (w .upto)))
 
     pub wrote-fits : (room : List ℕ) (y at : ℕ) → Wrote room₀ room y at → y < H → at + length (recordsIn occ W H y) ≤ length room
-    wrote-fits room y at w h = omega (arith, next-fits y h, w .next, wrote-long room y at w)
+    wrote-fits room y at w h =
+        omega (arith, low-fits (y + 1) (omega arith), ap length (records-more y), length-append (recordsOf occ W H y) (recordsIn occ W H y), w .next, wrote-long room y at w)
 
     pub wrote-more : (room room′ : List ℕ) (y at at′ : ℕ) → Wrote room₀ room y at → y < H → at′ ≡ at + length (recordsIn occ W H y)
         → room′ ≡ written at (recordsIn occ W H y) room → Wrote room₀ room′ (y + 1) at′

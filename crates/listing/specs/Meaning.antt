@@ -1,4 +1,4 @@
--- What the rowEntries of a row are, without saying how they are found; and the order of the list. Assumes nothing.
+-- What the entries of a row are, without saying how they are found; and the order of the list. Assumes nothing.
 use mathlib.Core.Path.{_≡_}
 use mathlib.Core.Logic.{_⊎_}
 use mathlib.Core.Bool.{Bool, true}

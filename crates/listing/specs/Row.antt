@@ -2,10 +2,10 @@
 -- `f c` is the height of the empty run that ends in cell c of the row, 0 where c is occupied and from the row's width on; `b c` says that c has
 -- support: it is empty, and the cell under it is occupied or the row is the last. Assumes nothing.
 use mathlib.Core.Path.{_≡_}
-use mathlib.Core.Bool.{Bool, true, false, cond, _&&_, _||_}
+use mathlib.Core.Bool.{Bool, cond, _&&_, _||_}
 use mathlib.Core.List.{List, [], _∷_, _++_}
 use Prim.Native.Nat.{ℕ, zero, suc, _+_, _≤_, _<_, min}
-use lib.ListN.{getD, drop}
+use lib.ListN.{getD}
 use lib.Dec.{ltb}
 use Rattle.rules.specs.Tests.{put}
 
@@ -116,9 +116,3 @@ pub record CutAt (sh : List ℕ) (n v k : ℕ) : Type 0 where
 -- the cells lo .. x - 1 have a height: they are empty
 abbrev pub Open : (ℕ → ℕ) → ℕ → ℕ → Type 0
 Open f lo x = (c : ℕ) → lo ≤ c → c < x → f c ≡ 0 → ⊥
-
--- from n on three lists are as they were
-pub record Rest (ls₀ rs₀ hs₀ ls rs hs : List ℕ) (n : ℕ) : Type 0 where
-  pub of-lefts : drop n ls ≡ drop n ls₀
-  pub of-rights : drop n rs ≡ drop n rs₀
-  pub of-heights : drop n hs ≡ drop n hs₀

@@ -1,27 +1,22 @@
 -- At most W·H entries: each has a column that is blocked right above its top row, and no two share that column and their bottom row. Assumes nothing.
 use mathlib.Core.Path.{_≡_, refl, sym, ap, _∙_}
 use mathlib.Core.Bool.{Bool, true, false, not, _||_}
-use mathlib.Core.Logic.{_⊎_, inl, inr, ⊎-elim}
-use mathlib.Core.List.{List, [], _∷_, List·Memᴰ, List·Memᴰ·head, List·Memᴰ·tail, List·Memᴰ·not-nil}
+use mathlib.Core.List.{List, [], _∷_, List·Memᴰ, List·Memᴰ·head}
 use Prim.Native.Nat.{ℕ, zero, suc, _+_, _-_, _*_, _/_, _%_, _≤_, _<_, min, max}
-use native.Mathlib.Nat.{le-refl, eq-or-lt-of-le, mul-comm}
-use native.Mathlib.Decide.{decLt}
+use native.Mathlib.Nat.{le-refl, mul-comm}
 use native.Mathlib.Omega.{arith}
 use lib.Arith.{digits-lt, digits-div, digits-mod}
 use lib.Dec.{eqb}
 use lib.ListN.{length}
-use borrow.Author.Tests.{eqb-true, eqb-false, eq-eqb, not-true}
-use Rattle.rules.specs.Tests.{leastFrom, put, keep}
+use borrow.Author.Tests.{eqb-true, eqb-false, not-true}
+use Rattle.rules.specs.Tests.{leastFrom, keep}
 use Rattle.rules.specs.Surface.{rect}
-use Rattle.rules.specs.Empties.{Inside, Empty, Maximal, entries, Ordered}
+use Rattle.rules.specs.Empties.{Empty, Maximal, entries, Ordered}
 use Rattle.rules.specs.declared.Rect.{Rect}
-use Rattle.rules.proofs.Tests.{or-which, or-neither, not-both, fails, Least, leastFrom-is, keep-all, mem-keep}
-use Rattle.meaning.proofs.Rectangles.{entries-are}
+use Rattle.rules.proofs.Tests.{or-neither, not-both, fails, leastFrom-is, keep-all, mem-keep}
+use Rattle.meaning.proofs.Splits.{by-test, by-or, by-less}
+use Rattle.meaning.proofs.Rectangles.{not-larger, entries-are}
 use Rattle.meaning.proofs.Order.{ordered-keep, ordered-by, entries-ordered, earlier-other}
-
--- a number is below another or it isn't
-pub lt-or-le : (a b : ℕ) → (a < b) ⊎ (b ≤ a)
-lt-or-le a b = elim (decLt a b) [ yes h ↦ inl h | no h ↦ inr (omega arith) ]
 
 -- ---- a list whose items have different keys below n has at most n items
 
@@ -35,13 +30,10 @@ module _ {A : Type 0} (key : A → ℕ) where
   one-left-out : (n : ℕ) (l : List A) → Ordered Apart l → length l ≤ suc (length (keep (others n) l))
   unfolding Ordered keep
   one-left-out n [] o = omega arith
-  one-left-out n (x ∷ l) o = go (eqb (key x) n) refl (one-left-out n l (o .1))
-    where
-      go : (b : Bool) → eqb (key x) n ≡ b → length l ≤ suc (length (keep (others n) l)) → suc (length l) ≤ suc (length (put (not b) x (keep (others n) l)))
-      go true e r =
-          let s : keep (others n) l ≡ l = keep-all (others n) l (λ a m. ap not (fails (eqb (key a) n) (λ q. o .0 a m (eqb-true _ _ e ∙ sym (eqb-true _ _ q))))) in
-          rw s (le-refl _)
-      go false e r = omega arith
+  one-left-out n (x ∷ l) o =
+      by-test (eqb (key x) n)
+      (λ e. rw (e, keep-all (others n) l (λ a m. ap not (fails (eqb (key a) n) (λ q. o .0 a m (eqb-true _ _ e ∙ sym (eqb-true _ _ q)))))) (le-refl _))
+      (λ e. rw e (omega (arith, one-left-out n l (o .1))))
 
   pub few : (n : ℕ) (l : List A) → ((a : A) → List·Memᴰ a l → key a < n) → Ordered Apart l → length l ≤ n
   few zero [] f o = omega arith
@@ -76,48 +68,29 @@ module _ (occ : ℕ → ℕ → Bool) (W H : ℕ) where
 
   blocked-at : (a : Rect) → Maximal occ W H a → Blocked a (column a)
   unfolding column
-  blocked-at a m = go (leastFrom-is (a .x) (a .w) (blocked (a .y)))
-    where
-      c : ℕ
-      c = leastFrom (a .x) (a .w) (blocked (a .y))
-
-      go : Least (a .x) (a .w) (blocked (a .y)) c → Blocked a c
-      go l =
-          ⊎-elim
-          (λ (p : c < a .x + a .w). record { from = l .from; upto = p; above = l .here p })
-          (λ (p : a .x + a .w ≤ c).
-          let clear : (x : ℕ) → a .x ≤ x → x < a .x + a .w → (eqb (a .y) 0 ≡ false) × (occ x (a .y - 1) ≡ false) =
-          λ x f g. or-neither (eqb (a .y) 0) (occ x (a .y - 1)) (l .before x f (omega arith)) in
-          let first = clear (a .x) (le-refl _) (omega (arith, m .isEmpty .wide)) in
-          let high = eqb-false (a .y) 0 (first .0) in
-          let taller : Rect = rect (a .x) (a .y - 1) (a .w) (suc (a .h)) in
-          let e : Empty occ W H taller = record {
-            wide = m .isEmpty .wide;
-            tall = omega arith;
-            columns = m .isEmpty .columns;
-            lines = omega (arith, m .isEmpty .lines);
-            free = λ x y f g h k.
-                ⊎-elim
-                (λ (z : y < a .y). let q : y ≡ a .y - 1 = omega arith in ap (occ x) q ∙ clear x f g .1)
-                (λ (z : a .y ≤ y). m .isEmpty .free x y f g z (omega arith))
-                (lt-or-le y (a .y));
-          } in
-          let s = m .most taller e (record { left = le-refl _; top = omega arith; right = le-refl _; bottom = omega arith }) in
-          let t : suc (a .h) ≡ a .h = ap (λ (r : Rect). r .h) s in
-          absurd (omega arith))
-          (lt-or-le c (a .x + a .w))
+  blocked-at a m =
+      let c = leastFrom (a .x) (a .w) (blocked (a .y)) in
+      let l = leastFrom-is (a .x) (a .w) (blocked (a .y)) in
+      by-less c (a .x + a .w) (λ p. record { from = l .from; upto = p; above = l .here p }) (λ p.
+      let clear : (x : ℕ) → a .x ≤ x → x < a .x + a .w → (eqb (a .y) 0 ≡ false) × (occ x (a .y - 1) ≡ false) =
+      λ x f g. or-neither (eqb (a .y) 0) (occ x (a .y - 1)) (l .before x f (omega arith)) in
+      let high = eqb-false (a .y) 0 (clear (a .x) (le-refl _) (omega (arith, m .isEmpty .wide)) .0) in
+      not-larger occ W H m (rect (a .x) (a .y - 1) (a .w) (suc (a .h)))
+      (record { left = le-refl _; top = omega arith; right = le-refl _; bottom = omega arith }) (omega arith) (m .isEmpty .columns) (omega (arith, m .isEmpty .lines))
+      (λ x y f g h k.
+      by-less y (a .y)
+      (λ z. let q : y ≡ a .y - 1 = omega arith in ap (occ x) q ∙ clear x f g .1)
+      (λ z. m .isEmpty .free x y f g z (omega arith))))
 
   -- a starts no lower than b where they share that column and their bottom row
   not-lower : (a b : Rect) (c : ℕ) → Empty occ W H a → a .y + a .h ≡ b .y + b .h → a .x ≤ c → c < a .x + a .w → Blocked b c → 1 ≤ b .h → b .y ≤ a .y
   not-lower a b c e q f g k t =
-      ⊎-elim
-      (λ (p : a .y < b .y).
-      ⊎-elim
-      (λ (z : eqb (b .y) 0 ≡ true). let y0 = eqb-true (b .y) 0 z in absurd (omega arith))
-      (λ (z : occ c (b .y - 1) ≡ true). not-both (occ c (b .y - 1)) z (e .free c (b .y - 1) f g (omega arith) (omega arith)))
-      (or-which (eqb (b .y) 0) (occ c (b .y - 1)) (k .above)))
-      (λ (p : b .y ≤ a .y). p)
-      (lt-or-le (a .y) (b .y))
+      by-less (a .y) (b .y)
+      (λ p.
+      by-or (eqb (b .y) 0) (occ c (b .y - 1)) (k .above)
+      (λ z. let y0 = eqb-true (b .y) 0 z in absurd (omega arith))
+      (λ z. not-both (occ c (b .y - 1)) z (e .free c (b .y - 1) f g (omega arith) (omega arith))))
+      (λ p. p)
 
   -- two maximal rectangles with the same rows and a column in common are one
   same-rows : (a b : Rect) (c : ℕ) → Maximal occ W H a → Maximal occ W H b → a .y ≡ b .y → a .h ≡ b .h →
@@ -134,12 +107,9 @@ module _ (occ : ℕ → ℕ → Bool) (W H : ℕ) where
         free = λ x y p q r s.
             let inA : a .x ≤ x → x < a .x + a .w → occ x y ≡ false = λ u v. m .isEmpty .free x y u v r s in
             let inB : b .x ≤ x → x < b .x + b .w → occ x y ≡ false = λ u v. n .isEmpty .free x y u v (omega arith) (omega arith) in
-            ⊎-elim
-            (λ (z : x < c).
-            ⊎-elim (λ (u : x < a .x). inB (omega arith) (omega arith)) (λ (u : a .x ≤ x). inA u (omega arith)) (lt-or-le x (a .x)))
-            (λ (z : c ≤ x).
-            ⊎-elim (λ (u : x < a .x + a .w). inA (omega arith) u) (λ (u : a .x + a .w ≤ x). inB (omega arith) (omega arith)) (lt-or-le x (a .x + a .w)))
-            (lt-or-le x c);
+            by-less x c
+            (λ z. by-less x (a .x) (λ u. inB (omega arith) (omega arith)) (λ u. inA u (omega arith)))
+            (λ z. by-less x (a .x + a .w) (λ u. inA (omega arith) u) (λ u. inB (omega arith) (omega arith)));
       } in
       let p : both ≡ a = m .most both e (record { left = omega arith; top = le-refl _; right = omega arith; bottom = le-refl _ }) in
       let q : both ≡ b = n .most both e (record { left = omega arith; top = omega arith; right = omega arith; bottom = omega arith }) in
@@ -159,12 +129,10 @@ module _ (occ : ℕ → ℕ → Bool) (W H : ℕ) where
   key-one : (a b : Rect) → Maximal occ W H a → Maximal occ W H b → key a ≡ key b → a ≡ b
   unfolding key
   key-one a b m n e =
-      let ba = digits-div (a .y + a .h - 1) (column-low a m) in
-      let bb = digits-div (b .y + b .h - 1) (column-low b n) in
-      let ca = digits-mod (a .y + a .h - 1) (column-low a m) in
-      let cb = digits-mod (b .y + b .h - 1) (column-low b n) in
-      let rows : a .y + a .h - 1 ≡ b .y + b .h - 1 = sym ba ∙ ap (λ k. k / W) e ∙ bb in
-      let cols : column a ≡ column b = sym ca ∙ ap (λ k. k % W) e ∙ cb in
+      let la = column-low a m in
+      let lb = column-low b n in
+      let rows : a .y + a .h - 1 ≡ b .y + b .h - 1 = sym (digits-div (a .y + a .h - 1) la) ∙ ap (λ k. k / W) e ∙ digits-div (b .y + b .h - 1) lb in
+      let cols : column a ≡ column b = sym (digits-mod (a .y + a .h - 1) la) ∙ ap (λ k. k % W) e ∙ digits-mod (b .y + b .h - 1) lb in
       let bottom : a .y + a .h ≡ b .y + b .h = omega (arith, m .isEmpty .tall, n .isEmpty .tall) in
       let ka = blocked-at a m in
       let kb = blocked-at b n in

@@ -1,10 +1,10 @@
 -- A rule finds a place exactly when some position has all its cells empty, and what it finds is empty. Assumes nothing.
 use mathlib.Core.Path.{_≡_, refl, sym, ap, ap₂, _∙_, subst}
-use mathlib.Core.Bool.{Bool, true, false, cond, _&&_}
-use mathlib.Core.Logic.{_⊎_, inl, inr, ⊎-elim, _↔_}
-use mathlib.Core.List.{List, [], _∷_, _++_, List·Memᴰ, List·Memᴰ·head, List·Memᴰ·tail, List·Memᴰ·not-nil, List·Memᴰ·cases-cons, head-eq-of-cons-eq, tail-eq-of-cons-eq, Memᴰ·cast}
+use mathlib.Core.Bool.{Bool, true}
+use mathlib.Core.Logic.{_↔_}
+use mathlib.Core.List.{List, [], _∷_, _++_, List·Memᴰ, List·Memᴰ·head, List·Memᴰ·tail, List·Memᴰ·not-nil, head-eq-of-cons-eq, tail-eq-of-cons-eq, Memᴰ·cast}
 use mathlib.Core.Option.{Option, none, some}
-use Prim.Native.Nat.{ℕ, zero, suc, _+_, _-_, _≤_, _<_}
+use Prim.Native.Nat.{ℕ, zero, suc, _+_, _≤_, _<_}
 use native.Mathlib.Nat.{le-refl}
 use native.Mathlib.Omega.{arith}
 use lib.Dec.{leb, ltb}
@@ -14,9 +14,10 @@ use Rattle.rules.specs.Surface.{rect}
 use Rattle.rules.specs.Empties.{empty, Inside, Empty, Maximal, maximal, entries}
 use Rattle.rules.specs.Requests.{position, fits, cost, cheapest, chosenOf, chosen, lowerLeft, standing, rulePlace}
 use Rattle.rules.specs.declared.Rect.{Rect}
-use Rattle.rules.proofs.Tests.{and-left, and-right, and-both, decide, any-at, any-yes, keep-mem, mem-keep}
+use Rattle.rules.proofs.Tests.{and-left, and-right, and-both, any-at, any-yes, keep-mem, mem-keep}
+use Rattle.meaning.proofs.Splits.{split, by-test, by-less, by-cons}
+use Rattle.meaning.specs.Rule.{FirstLeast, ByRule}
 use Rattle.meaning.proofs.Rectangles.{rect-eq, empty-is, part-empty, maximal-is, larger, Larger, entries-are}
-use Rattle.meaning.proofs.Bound.{lt-or-le}
 
 module _ (occ : ℕ → ℕ → Bool) (W H : ℕ) where
   -- ---- every empty rectangle lies in a maximal one
@@ -29,41 +30,24 @@ module _ (occ : ℕ → ℕ → Bool) (W H : ℕ) where
   -- what contains another and is not it has more columns and rows
   pub more : (a : Rect) (l : Larger occ W H a) → a .w + a .h < l .by .w + l .by .h
   more a l =
-      ⊎-elim
-      (λ (p : a .w + a .h < l .by .w + l .by .h). p)
-      (λ (p : l .by .w + l .by .h ≤ a .w + a .h).
-      absurd
-      (l .other
-      (rect-eq (l .by) a
-      (omega (arith, l .inside .left, l .inside .right, l .inside .top, l .inside .bottom))
-      (omega (arith, l .inside .left, l .inside .right, l .inside .top, l .inside .bottom))
-      (omega (arith, l .inside .left, l .inside .right, l .inside .top, l .inside .bottom))
-      (omega (arith, l .inside .left, l .inside .right, l .inside .top, l .inside .bottom)))))
-      (lt-or-le (a .w + a .h) (l .by .w + l .by .h))
+      let i = l .inside in
+      by-less (a .w + a .h) (l .by .w + l .by .h) (λ p. p)
+      (λ p. absurd (l .other (rect-eq (l .by) a (omega (arith, i)) (omega (arith, i)) (omega (arith, i)) (omega (arith, i)))))
 
   within : {a b c : Rect} → Inside a b → Inside b c → Inside a c
-  within i j = record {
-    left = omega (arith, i .left, j .left);
-    top = omega (arith, i .top, j .top);
-    right = omega (arith, i .right, j .right);
-    bottom = omega (arith, i .bottom, j .bottom);
-  }
+  within i j = record { left = omega (arith, i, j); top = omega (arith, i, j); right = omega (arith, i, j); bottom = omega (arith, i, j) }
 
   -- it is maximal, or a larger one is to be looked at
   grow-by : (a : Rect) → Empty occ W H a → (Larger occ W H a → Grown a) → Grown a
   grow-by a e f =
-      ⊎-elim
-      (λ (p : maximal occ W H a ≡ true).
-      record { to = a; isMaximal = maximal-is occ W H a .0 p; inside = record { left = le-refl _; top = le-refl _; right = le-refl _; bottom = le-refl _ } })
-      (λ (p : maximal occ W H a ≡ false). f (larger occ W H a (empty-is occ W H a .1 e) p))
-      (decide (maximal occ W H a))
+      by-test (maximal occ W H a)
+      (λ p. record { to = a; isMaximal = maximal-is occ W H a .0 p; inside = record { left = le-refl _; top = le-refl _; right = le-refl _; bottom = le-refl _ } })
+      (λ p. f (larger occ W H a (empty-is occ W H a .1 e) p))
 
   grow : (n : ℕ) (a : Rect) → Empty occ W H a → W + H ≤ n + (a .w + a .h) → Grown a
   grow zero a e h = grow-by a e (λ l. absurd (omega (arith, more a l, l .isEmpty .columns, l .isEmpty .lines)))
-  grow (suc n) a e h = grow-by a e (λ l. further l (grow n (l .by) (l .isEmpty) (omega (arith, more a l))))
-    where
-      further : (l : Larger occ W H a) → Grown (l .by) → Grown a
-      further l g = record { to = g .to; isMaximal = g .isMaximal; inside = within (l .inside) (g .inside) }
+  grow (suc n) a e h =
+      grow-by a e (λ l. let g = grow n (l .by) (l .isEmpty) (omega (arith, more a l)) in record { to = g .to; isMaximal = g .isMaximal; inside = within (l .inside) (g .inside) })
 
   -- EVERY EMPTY RECTANGLE LIES IN A MAXIMAL ONE
   pub grown : (a : Rect) → Empty occ W H a → Grown a
@@ -71,28 +55,29 @@ module _ (occ : ℕ → ℕ → Bool) (W H : ℕ) where
 
 -- ---- the choice: the first of those that cost least
 
-pub record FirstLeast (f : Rect → ℕ) (l : List Rect) (c : Rect) : Type 0 where
-  pub before : List Rect
-  pub after : List Rect
-  pub is : l ≡ before ++ (c ∷ after)
-  pub dearer : (d : Rect) → List·Memᴰ d before → f c < f d
-  pub least : (d : Rect) → List·Memᴰ d after → f c ≤ f d
-
 module _ (f : Rect → ℕ) where
   pub cheapest-le : (e : Rect) (l : List Rect) → f (cheapest f e l) ≤ f e
   unfolding cheapest
   cheapest-le e [] = le-refl _
-  cheapest-le e (d ∷ l) = go (ltb (f d) (f e)) refl (cheapest-le d l) (cheapest-le e l)
-    where
-      go : (b : Bool) → ltb (f d) (f e) ≡ b → f (cheapest f d l) ≤ f d → f (cheapest f e l) ≤ f e → f (cheapest f (cond b d e) l) ≤ f e
-      go true q p r = let z = ltb-true (f d) (f e) q in omega arith
-      go false q p r = r
+  cheapest-le e (d ∷ l) = split (λ c. f (cheapest f c l) ≤ f e) (ltb (f d) (f e)) (λ q. omega (arith, ltb-true (f d) (f e) q, cheapest-le d l)) (λ q. cheapest-le e l)
 
   -- THE RULE TAKES THE FIRST OF THOSE THAT COST LEAST
   pub cheapest-is : (e : Rect) (l : List Rect) → FirstLeast f (e ∷ l) (cheapest f e l)
   unfolding cheapest
   cheapest-is e [] = record { before = []; after = []; is = refl; dearer = λ d m. absurd (List·Memᴰ·not-nil m); least = λ d m. absurd (List·Memᴰ·not-nil m) }
-  cheapest-is e (d ∷ l) = go (ltb (f d) (f e)) refl (cheapest-is d l) (cheapest-is e l)
+  cheapest-is e (d ∷ l) =
+      split (λ c. FirstLeast f (e ∷ d ∷ l) (cheapest f c l)) (ltb (f d) (f e))
+      (λ q.
+      let z = ltb-true (f d) (f e) q in
+      let p = cheapest-is d l in
+      record {
+        before = e ∷ p .before;
+        after = p .after;
+        is = ap (λ u. e ∷ u) (p .is);
+        dearer = λ k m. by-cons m (λ y. let u = ap f y in omega (arith, cheapest-le d l)) (p .dearer k);
+        least = p .least;
+      })
+      (λ q. let r = cheapest-is e l in stays (ltb-false (f d) (f e) q) (cheapest f e l) (r .before) (r .after) (r .is) (r .dearer) (r .least))
     where
       -- e stays the first of those that cost least, or some later one costs less than it
       stays : f e ≤ f d → (c : Rect) (b a : List Rect) → (e ∷ l) ≡ (b ++ (c ∷ a)) → ((k : Rect) → List·Memᴰ k b → f c < f k) → ((k : Rect) → List·Memᴰ k a → f c ≤ f k) → FirstLeast f (e ∷ d ∷ l) c
@@ -104,7 +89,7 @@ module _ (f : Rect → ℕ) where
             after = d ∷ a;
             is = ap₂ (λ u v. u ∷ d ∷ v) h t;
             dearer = λ k m. absurd (List·Memᴰ·not-nil m);
-            least = λ k m. ⊎-elim (λ (z : k ≡ d). let u = ap f z in let v = ap f h in omega arith) (λ n. r k n) (List·Memᴰ·cases-cons m);
+            least = λ k m. by-cons m (λ z. omega (arith, ap f z, ap f h)) (r k);
           }
       stays q c (x ∷ b) a s p r =
           let h : e ≡ x = head-eq-of-cons-eq s in
@@ -115,33 +100,17 @@ module _ (f : Rect → ℕ) where
             before = x ∷ d ∷ b;
             after = a;
             is = ap₂ (λ y z. y ∷ d ∷ z) h t;
-            dearer = λ k m.
-                ⊎-elim (λ (z : k ≡ x). p k (List·Memᴰ·head z))
-                (λ n. ⊎-elim (λ (z : k ≡ d). let w = ap f z in omega arith) (λ o. p k (List·Memᴰ·tail o)) (List·Memᴰ·cases-cons n))
-                (List·Memᴰ·cases-cons m);
+            dearer = λ k m. by-cons m (λ z. p k (List·Memᴰ·head z)) (λ n. by-cons n (λ z. let w = ap f z in omega arith) (λ o. p k (List·Memᴰ·tail o)));
             least = r;
           }
-
-      go : (b : Bool) → ltb (f d) (f e) ≡ b → FirstLeast f (d ∷ l) (cheapest f d l) → FirstLeast f (e ∷ l) (cheapest f e l) → FirstLeast f (e ∷ d ∷ l) (cheapest f (cond b d e) l)
-      go true q p r =
-          let z = ltb-true (f d) (f e) q in
-          record {
-            before = e ∷ p .before;
-            after = p .after;
-            is = ap (λ u. e ∷ u) (p .is);
-            dearer = λ k m. ⊎-elim (λ (y : k ≡ e). let u = ap f y in omega (arith, cheapest-le d l)) (λ n. p .dearer k n) (List·Memᴰ·cases-cons m);
-            least = p .least;
-          }
-      go false q p r = stays (ltb-false (f d) (f e) q) (cheapest f e l) (r .before) (r .after) (r .is) (r .dearer) (r .least)
 
   pub cheapest-mem : (e : Rect) (l : List Rect) → List·Memᴰ (cheapest f e l) (e ∷ l)
   unfolding cheapest
   cheapest-mem e [] = List·Memᴰ·head refl
-  cheapest-mem e (d ∷ l) = go (ltb (f d) (f e)) (cheapest-mem d l) (cheapest-mem e l)
-    where
-      go : (b : Bool) → List·Memᴰ (cheapest f d l) (d ∷ l) → List·Memᴰ (cheapest f e l) (e ∷ l) → List·Memᴰ (cheapest f (cond b d e) l) (e ∷ d ∷ l)
-      go true p r = List·Memᴰ·tail p
-      go false p r = ⊎-elim (λ z. List·Memᴰ·head z) (λ n. List·Memᴰ·tail (List·Memᴰ·tail n)) (List·Memᴰ·cases-cons r)
+  cheapest-mem e (d ∷ l) =
+      split (λ c. List·Memᴰ (cheapest f c l) (e ∷ d ∷ l)) (ltb (f d) (f e))
+      (λ q. List·Memᴰ·tail (cheapest-mem d l))
+      (λ q. by-cons (cheapest-mem e l) (λ z. List·Memᴰ·head z) (λ n. List·Memᴰ·tail (List·Memᴰ·tail n)))
 
   -- something is chosen from every list that has an item, and it is an item
   pub chosenOf-some : (l : List Rect) {a : Rect} → List·Memᴰ a l → (c : Rect) × (chosenOf f l ≡ some c)
@@ -157,21 +126,12 @@ module _ (f : Rect → ℕ) where
 -- ---- the place that a rule chose
 
 module _ (occ : ℕ → ℕ → Bool) (W H : ℕ) (rule w h : ℕ) where
-  -- the entry behind a place by rule
-  pub record ByRule (r : Rect) : Type 0 where
-    pub entry : Rect
-    pub isMaximal : Maximal occ W H entry
-    pub wide : w ≤ entry .w
-    pub high : h ≤ entry .h
-    pub best : FirstLeast (cost W H w h rule) (keep (fits w h) (entries occ W H)) entry
-    pub is : r ≡ lowerLeft w h entry
-
   -- A PLACE BY RULE IS THE LOWER LEFT CORNER OF THE FIRST ENTRY WITH ROOM THAT COSTS LEAST
-  pub rulePlace-is : (r : Rect) → rulePlace occ W H rule w h ≡ some r → ByRule r
+  pub rulePlace-is : (r : Rect) → rulePlace occ W H rule w h ≡ some r → ByRule occ W H rule w h r
   unfolding rulePlace chosen
   rulePlace-is r e = go (chosenOf (cost W H w h rule) (keep (fits w h) (entries occ W H))) refl e
     where
-      go : (o : Option Rect) → chosenOf (cost W H w h rule) (keep (fits w h) (entries occ W H)) ≡ o → standing w h o ≡ some r → ByRule r
+      go : (o : Option Rect) → chosenOf (cost W H w h rule) (keep (fits w h) (entries occ W H)) ≡ o → standing w h o ≡ some r → ByRule occ W H rule w h r
       go none p q = absurd (let z : _≡_ {A = ℕ} 0 1 = cc in omega arith)
       go (some c) p q =
           let m = chosenOf-mem (cost W H w h rule) (keep (fits w h) (entries occ W H)) c p in

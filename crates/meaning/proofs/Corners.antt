@@ -1,22 +1,20 @@
 -- The lower right cell of each maximal rectangle is a corner, and its row is scanned. Assumes nothing.
-use mathlib.Core.Path.{_≡_, refl, sym, ap, ap₂, _∙_}
-use mathlib.Core.Bool.{Bool, true, false, not, cond, _&&_, _||_}
-use mathlib.Core.Logic.{_⊎_, inl, inr, ⊎-elim}
+use mathlib.Core.Path.{_≡_, ap, ap₂, _∙_}
+use mathlib.Core.Bool.{Bool, true, false, not, _&&_}
 use mathlib.Core.List.{List}
 use Prim.Native.Nat.{ℕ, zero, suc, _+_, _-_, _*_, _≤_, _<_}
-use native.Mathlib.Nat.{le-refl, eq-or-lt-of-le, mul-comm}
+use native.Mathlib.Nat.{le-refl, mul-comm}
 use native.Mathlib.Omega.{arith}
-use lib.Dec.{leb, ltb, eqb}
-use lib.IntN.{pos}
+use lib.Dec.{eqb}
 use lib.Signed.{ltZ}
 use borrow.Author.Tests.{le-leb, lt-ltb, eq-eqb, not-false}
-use Rattle.rules.specs.Tests.{every, any, total, count}
+use Rattle.rules.specs.Tests.{every, total, count}
 use Rattle.rules.specs.Surface.{rect, covers, slots, rectOf, usedSlot, holds, occupied, upwards, weight}
-use Rattle.rules.specs.Empties.{cellsEmpty, Inside, Empty, Maximal, scanned, corner, corners}
+use Rattle.rules.specs.Empties.{cellsEmpty, Maximal, scanned, corner, corners}
 use Rattle.rules.specs.declared.Rect.{Rect}
-use Rattle.rules.proofs.Tests.{and-both, four-and, not-both, or-left, or-right, decide, fails, every-fails, any-at, any-yes}
-use Rattle.meaning.proofs.Rectangles.{cellsEmpty-at}
-use Rattle.meaning.proofs.Bound.{lt-or-le}
+use Rattle.rules.proofs.Tests.{and-both, four-and, not-both, or-left, or-right, fails, every-fails, any-at, any-yes, count-le}
+use Rattle.meaning.proofs.Splits.{by-test, by-less}
+use Rattle.meaning.proofs.Rectangles.{cellsEmpty-at, not-larger}
 use Rattle.meaning.proofs.Weights.{upwards-free, upwards-ge, covers-within, Within, holds-covers, holds-used, weight-occupied, weight-empty}
 
 -- an occupied cell of a rectangle
@@ -51,39 +49,15 @@ module _ (t : List ℕ) (W H : ℕ) (a : Rect) (m : Maximal (occupied t) W H a) 
 
   no-lower : a .y + a .h < H → cellsEmpty occ below ≡ true → ⊥
   no-lower p e =
-      let taller : Rect = rect (a .x) (a .y) (a .w) (suc (a .h)) in
-      let f : Empty occ W H taller = record {
-        wide = m .isEmpty .wide;
-        tall = omega arith;
-        columns = m .isEmpty .columns;
-        lines = omega arith;
-        free = λ x y g h k l.
-            ⊎-elim
-            (λ (z : y < a .y + a .h). m .isEmpty .free x y g h k z)
-            (λ (z : a .y + a .h ≤ y). cellsEmpty-at occ W H below e x y g h z (omega arith))
-            (lt-or-le y (a .y + a .h));
-      } in
-      let s = m .most taller f (record { left = le-refl _; top = le-refl _; right = le-refl _; bottom = omega arith }) in
-      let q : suc (a .h) ≡ a .h = ap (λ (r : Rect). r .h) s in
-      omega arith
+      not-larger occ W H m (rect (a .x) (a .y) (a .w) (suc (a .h)))
+      (record { left = le-refl _; top = le-refl _; right = le-refl _; bottom = omega arith }) (omega arith) (m .isEmpty .columns) (omega arith)
+      (λ x y g h k l. by-less y (a .y + a .h) (m .isEmpty .free x y g h k) (λ z. cellsEmpty-at occ W H below e x y g h z (omega arith)))
 
   no-wider : a .x + a .w < W → cellsEmpty occ beside ≡ true → ⊥
   no-wider p e =
-      let wider : Rect = rect (a .x) (a .y) (suc (a .w)) (a .h) in
-      let f : Empty occ W H wider = record {
-        wide = omega arith;
-        tall = m .isEmpty .tall;
-        columns = omega arith;
-        lines = m .isEmpty .lines;
-        free = λ x y g h k l.
-            ⊎-elim
-            (λ (z : x < a .x + a .w). m .isEmpty .free x y g z k l)
-            (λ (z : a .x + a .w ≤ x). cellsEmpty-at occ W H beside e x y z (omega arith) k l)
-            (lt-or-le x (a .x + a .w));
-      } in
-      let s = m .most wider f (record { left = le-refl _; top = le-refl _; right = omega arith; bottom = le-refl _ }) in
-      let q : suc (a .w) ≡ a .w = ap (λ (r : Rect). r .w) s in
-      omega arith
+      not-larger occ W H m (rect (a .x) (a .y) (suc (a .w)) (a .h))
+      (record { left = le-refl _; top = le-refl _; right = omega arith; bottom = le-refl _ }) (omega arith) (omega arith) (m .isEmpty .lines)
+      (λ x y g h k l. by-less x (a .x + a .w) (λ z. m .isEmpty .free x y g z k l) (λ z. cellsEmpty-at occ W H beside e x y z (omega arith) k l))
 
   -- under a maximal rectangle the surface ends, or a module begins: a cell is occupied, and the one above it is not
   begins : Taken occ below → (i : ℕ) × (i < slots t) × ((usedSlot t i && eqb (rectOf t i .y) (a .y + a .h)) ≡ true)
@@ -96,14 +70,13 @@ module _ (t : List ℕ) (W H : ℕ) (a : Rect) (m : Maximal (occupied t) W H a) 
       let c = covers-within r (k .x) (k .y) (holds-covers t (k .x) (k .y) i (w .2)) in
       let u = holds-used t (k .x) (k .y) i (w .2) in
       let top : r .y ≡ a .y + a .h =
-      ⊎-elim
-      (λ (p : r .y < a .y + a .h).
+      by-less (r .y) (a .y + a .h)
+      (λ p.
       let y = a .y + a .h - 1 in
       let v = cover r (k .x) y (c .left) (c .right) (omega arith) (omega (arith, c .bottom, m .isEmpty .tall)) in
       let free = m .isEmpty .free (k .x) y (k .within .left) (k .within .right) (omega (arith, m .isEmpty .tall)) (omega (arith, m .isEmpty .tall)) in
       not-both (occ (k .x) y) (any-yes (slots t) (holds t (k .x) y) i (w .1) (held i (k .x) y u v)) free)
-      (λ (p : a .y + a .h ≤ r .y). omega (arith, c .top))
-      (lt-or-le (r .y) (a .y + a .h)) in
+      (λ p. omega (arith, c .top)) in
       (i, w .1, and-both u (eq-eqb _ _ top))
     where
       cover : (r : Rect) (x y : ℕ) → r .x ≤ x → x < r .x + r .w → r .y ≤ y → y < r .y + r .h → covers r x y ≡ true
@@ -118,13 +91,9 @@ module _ (t : List ℕ) (W H : ℕ) (a : Rect) (m : Maximal (occupied t) W H a) 
   bottom-scanned =
       let q : suc (a .y + a .h - 1) ≡ a .y + a .h = omega (arith, m .isEmpty .tall) in
       rw q
-      (⊎-elim
-      (λ (p : a .y + a .h < H).
-      let k = taken-in occ below (fails _ (no-lower p)) in
-      let w = begins k in
-      or-right (eqb (a .y + a .h) H) _ (any-yes (slots t) _ (w .0) (w .1) (w .2)))
-      (λ (p : H ≤ a .y + a .h). or-left (eqb (a .y + a .h) H) _ (eq-eqb (a .y + a .h) H (omega (arith, m .isEmpty .lines))))
-      (lt-or-le (a .y + a .h) H))
+      (by-less (a .y + a .h) H
+      (λ p. let w = begins (taken-in occ below (fails _ (no-lower p))) in or-right (eqb (a .y + a .h) H) _ (any-yes (slots t) _ (w .0) (w .1) (w .2)))
+      (λ p. or-left (eqb (a .y + a .h) H) _ (eq-eqb (a .y + a .h) H (omega (arith, m .isEmpty .lines)))))
 
   abbrev right : ℕ
   right = a .x + a .w - 1
@@ -143,22 +112,17 @@ module _ (t : List ℕ) (W H : ℕ) (a : Rect) (m : Maximal (occupied t) W H a) 
 
   -- the cell to the right is occupied, or stands on a shorter run
   smaller : a .x + a .w < W → ltZ (weight t (a .x + a .w) bottom) (weight t right bottom) ≡ true
-  smaller p = go (occ (a .x + a .w) bottom) refl
-    where
-      go : (b : Bool) → occ (a .x + a .w) bottom ≡ b → ltZ (weight t (a .x + a .w) bottom) (weight t right bottom) ≡ true
-      go true e = ap₂ ltZ (weight-occupied t (a .x + a .w) bottom e .1) (weight-empty t right bottom corner-free)
-      go false e =
-          let k = taken-in occ beside (fails _ (no-wider p)) in
-          let column : k .x ≡ a .x + a .w = omega (arith, k .within .left, k .within .right) in
-          let short : upwards occ (a .x + a .w) bottom < a .h =
-          ⊎-elim
-          (λ (q : upwards occ (a .x + a .w) bottom < a .h). q)
-          (λ (q : a .h ≤ upwards occ (a .x + a .w) bottom).
-          not-both (occ (k .x) (k .y)) (k .taken)
-          (ap (λ c. occ c (k .y)) column ∙ upwards-free occ (a .x + a .w) bottom (k .y) (omega (arith, k .within .bottom)) (omega (arith, k .within .top, m .isEmpty .tall))))
-          (lt-or-le (upwards occ (a .x + a .w) bottom) (a .h)) in
-          ap₂ ltZ (weight-empty t (a .x + a .w) bottom e) (weight-empty t right bottom corner-free)
-          ∙ lt-ltb (upwards occ (a .x + a .w) bottom) (upwards occ right bottom) (omega (arith, tall-enough))
+  smaller p =
+      let next = a .x + a .w in
+      by-test (occ next bottom) (λ e. ap₂ ltZ (weight-occupied t next bottom e .1) (weight-empty t right bottom corner-free)) (λ e.
+      let k = taken-in occ beside (fails _ (no-wider p)) in
+      let column : k .x ≡ next = omega (arith, k .within .left, k .within .right) in
+      let short : upwards occ next bottom < a .h =
+      by-less (upwards occ next bottom) (a .h) (λ q. q) (λ q.
+      not-both (occ (k .x) (k .y)) (k .taken)
+      (ap (λ c. occ c (k .y)) column ∙ upwards-free occ next bottom (k .y) (omega (arith, k .within .bottom)) (omega (arith, k .within .top, m .isEmpty .tall)))) in
+      ap₂ ltZ (weight-empty t next bottom e) (weight-empty t right bottom corner-free)
+      ∙ lt-ltb (upwards occ next bottom) (upwards occ right bottom) (omega (arith, tall-enough)))
 
   -- THE LOWER RIGHT CELL OF EACH MAXIMAL RECTANGLE IS A CORNER
   pub lower-right-corner : corner W H t right bottom ≡ true
@@ -167,10 +131,9 @@ module _ (t : List ℕ) (W H : ℕ) (a : Rect) (m : Maximal (occupied t) W H a) 
       let q : suc right ≡ a .x + a .w = omega (arith, m .isEmpty .wide) in
       and-both (and-both (ap not corner-free) bottom-scanned)
       (rw q
-      (⊎-elim
-      (λ (p : a .x + a .w < W). or-right (eqb (a .x + a .w) W) _ (smaller p))
-      (λ (p : W ≤ a .x + a .w). or-left (eqb (a .x + a .w) W) _ (eq-eqb (a .x + a .w) W (omega (arith, m .isEmpty .columns))))
-      (lt-or-le (a .x + a .w) W)))
+      (by-less (a .x + a .w) W
+      (λ p. or-right (eqb (a .x + a .w) W) _ (smaller p))
+      (λ p. or-left (eqb (a .x + a .w) W) _ (eq-eqb (a .x + a .w) W (omega (arith, m .isEmpty .columns))))))
 
 -- a sum of n numbers of at most k each
 total-le : (n k : ℕ) (f : ℕ → ℕ) → ((j : ℕ) → f j ≤ k) → total n f ≤ n * k
@@ -178,12 +141,8 @@ unfolding total
 total-le zero k f h = omega arith
 total-le (suc n) k f h = omega (arith, total-le n k f h, h n)
 
-one-or-none : (b : Bool) → cond b 1 0 ≤ 1
-one-or-none true = omega arith
-one-or-none false = omega arith
-
 -- AT MOST W·H CORNERS
 pub corners-few : (W H : ℕ) (t : List ℕ) → corners W H t ≤ W * H
 unfolding corners
 corners-few W H t =
-    omega (arith, total-le H W (λ y. count W (λ x. corner W H t x y)) (λ y. omega (arith, total-le W 1 (λ x. cond (corner W H t x y) 1 0) (λ x. one-or-none (corner W H t x y)))), mul-comm W H)
+    omega (arith, total-le H W (λ y. count W (λ x. corner W H t x y)) (λ y. count-le W (λ x. corner W H t x y)), mul-comm W H)

@@ -1,15 +1,15 @@
 -- The list is in the stated order, so that nothing stands in it twice. Assumes nothing.
-use mathlib.Core.Path.{_≡_, refl, sym, ap, _∙_}
-use mathlib.Core.Bool.{Bool, true, false}
+use mathlib.Core.Path.{_≡_, refl, sym, ap, subst}
+use mathlib.Core.Bool.{Bool}
 use mathlib.Core.Logic.{_⊎_, inl, inr, ⊎-elim}
-use mathlib.Core.List.{List, [], _∷_, _++_, List·Memᴰ, List·Memᴰ·head, List·Memᴰ·tail, List·Memᴰ·not-nil, List·Memᴰ·cases-cons, List·Memᴰ·append-cases, List·Memᴰ·eq-of-singleton}
+use mathlib.Core.List.{List, [], _∷_, _++_, List·Memᴰ, List·Memᴰ·head, List·Memᴰ·tail, List·Memᴰ·not-nil, List·Memᴰ·append-cases, List·Memᴰ·eq-of-singleton}
 use Prim.Native.Nat.{ℕ, zero, suc, _+_, _-_, _≤_, _<_}
-use native.Mathlib.Nat.{le-refl, eq-or-lt-of-le}
 use native.Mathlib.Omega.{arith}
-use Rattle.rules.specs.Tests.{put, keep, chain}
-use Rattle.rules.specs.Empties.{Inside, Empty, Maximal, spanning, rects, maximal, entries, Earlier, Ordered}
+use Rattle.rules.specs.Tests.{keep, chain}
+use Rattle.rules.specs.Empties.{Inside, Maximal, spanning, rects, maximal, entries, Earlier, Ordered}
 use Rattle.rules.specs.declared.Rect.{Rect}
 use Rattle.rules.proofs.Tests.{mem-keep, mem-chain}
+use Rattle.meaning.proofs.Splits.{by-test}
 use Rattle.meaning.proofs.Rectangles.{entries-are}
 
 -- ---- ordered lists
@@ -35,11 +35,7 @@ module _ {A : Type 0} where
   pub ordered-keep : (R : A → A → Type 0) (p : A → Bool) (l : List A) → Ordered R l → Ordered R (keep p l)
   unfolding Ordered keep
   ordered-keep R p [] o = tt
-  ordered-keep R p (x ∷ l) o = go (p x) (ordered-keep R p l (o .1))
-    where
-      go : (b : Bool) → Ordered R (keep p l) → Ordered R (put b x (keep p l))
-      go true r = ((λ b m. o .0 b (mem-keep p l m .0)), r)
-      go false r = r
+  ordered-keep R p (x ∷ l) o = let r = ordered-keep R p l (o .1) in by-test (p x) (λ e. rw e ((λ b m. o .0 b (mem-keep p l m .0)), r)) (λ e. rw e r)
 
   -- another relation, where it follows for the list's items
   pub ordered-by : (R S : A → A → Type 0) (l : List A) → ((a b : A) → List·Memᴰ a l → List·Memᴰ b l → R a b → S a b) → Ordered R l → Ordered S l
@@ -156,10 +152,6 @@ module _ (occ : ℕ → ℕ → Bool) (W H : ℕ) where
 -- what is earlier is another
 pub earlier-other : (a b : Rect) → Earlier a b → a ≡ b → ⊥
 earlier-other a b p e =
-    let by : a .y + a .h ≡ b .y + b .h = ap (λ (c : Rect). c .y + c .h) e in
-    let bx : a .x + a .w ≡ b .x + b .w = ap (λ (c : Rect). c .x + c .w) e in
-    let lx : a .x ≡ b .x = ap (λ (c : Rect). c .x) e in
-    ⊎-elim
-    (λ (q : a .y + a .h < b .y + b .h). omega arith)
-    (λ q. ⊎-elim (λ (r : a .x + a .w < b .x + b .w). omega arith) (λ (r : (a .x + a .w ≡ b .x + b .w) × (a .x < b .x)). omega arith) (q .1))
-    p
+    ⊎-elim (λ (q : a .y + a .h < a .y + a .h). omega arith)
+    (λ q. ⊎-elim (λ (r : a .x + a .w < a .x + a .w). omega arith) (λ (r : (a .x + a .w ≡ a .x + a .w) × (a .x < a .x)). omega arith) (q .1))
+    (subst (Earlier a) (sym e) p)

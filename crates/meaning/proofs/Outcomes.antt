@@ -1,24 +1,62 @@
--- WHAT RUNNING A BLOCK AND LISTING COME TO, each way out as one equation of the whole outcome: code, counts and every lent buffer. Stated once,
--- over `bad` and the weights: so for lent lists of numbers and for the host's bytes alike. Assumes nothing.
+-- WHAT CLEAR, CHECK, RUNNING A BLOCK AND LISTING COME TO, each way out as one equation of the whole outcome: code, counts and every lent buffer. Stated
+-- once, over `bad` and the weights: so for the figures' numbers and for the host's bytes alike. Assumes nothing.
 use mathlib.Core.Path.{_≡_, refl, sym, ap, _∙_}
-use mathlib.Core.Bool.{Bool, true, false, not, cond}
+use mathlib.Core.Bool.{Bool, true, false, cond}
 use mathlib.Core.List.{List, [], _∷_, _++_}
-use Prim.Native.Nat.{ℕ, _+_, _*_, _/_, _≤_, _<_}
-use native.Mathlib.Omega.{arith}
-use borrow.Author.Tests.{eq-eqb, ne-eqb}
+use Prim.Native.Nat.{ℕ}
+use borrow.Author.Tests.{ne-eqb}
 use lib.Dec.{eqb}
 use lib.IntN.{ℤ}
 use lib.ListN.{length}
 use Rattle.rules.specs.Judging.{Line, _when_, first}
-use Rattle.rules.specs.Surface.{stands}
+use Rattle.meaning.specs.Numbers.{above}
+use Rattle.rules.specs.Surface.{stands, usedSlots}
 use Rattle.rules.specs.Empties.{corners}
 use Rattle.rules.specs.Blocks.{State, started, requests, after}
-use Rattle.rules.specs.Calls.{sizeLines, standLines, badBlock, badAnswers, Ran, runLines, runCode, runWith, entriesOf, shortRoom, roomAfter, Listed, listLines, listCode, listWith}
-use Rattle.meaning.proofs.Lowest.{rising, first-stop, first-over}
+use Rattle.rules.specs.Calls.{Cleared, clearedWeights, clearedTable, sizeLines, standLines, badBlock, badAnswers, Ran, runLines, runCode, runWith, entriesOf, shortRoom, roomAfter, Listed, listLines, listCode, listWith, Checked, checkLines, checkCode, checkWith}
+use Rattle.meaning.proofs.First.{first-stop, first-over}
+
+-- ---- any call: its outcome by its code, and by whether that is 0
+
+module _ {A : Type 0} (by : ℕ → Bool → A) where
+  pub refuses : (c : ℕ) → (c ≡ 0 → ⊥) → by c (eqb c 0) ≡ by c false
+  refuses c ne = ap (by c) (ne-eqb c 0 ne)
+
+  pub does : (c : ℕ) → c ≡ 0 → by c (eqb c 0) ≡ by 0 true
+  does c e = ap (λ k. by k (eqb k 0)) e
+
+  -- the code is that of the first of two lists of lines, or, where that is 0, of the second
+  module _ (ahead behind : List Line) where
+    stops : (c : ℕ) → c ≡ first ahead → (c ≡ 0 → ⊥) → by (first (ahead ++ behind)) (eqb (first (ahead ++ behind)) 0) ≡ by c false
+    stops c e ne = ap (λ k. by k (eqb k 0)) (first-stop ahead behind (λ z. ne (e ∙ z)) ∙ sym e) ∙ refuses c ne
+
+    passes : above 0 ahead ≡ true → first ahead ≡ 0 → (c : ℕ) → first behind ≡ c → by (first (ahead ++ behind)) (eqb (first (ahead ++ behind)) 0) ≡ by c (eqb c 0)
+    passes u e c q = ap (λ k. by k (eqb k 0)) (first-over ahead behind u e ∙ q)
 
 module _ (bad : Bool) (W H : ℕ) (s : List ℤ) (t : List ℕ) where
   abbrev sizes : List Line
   sizes = sizeLines bad W H (length t)
+
+  abbrev pub clearBy : ℕ → Bool → Cleared
+  clearBy c d = record { code = c; weights = cond d (clearedWeights W H) s; table = cond d (clearedTable t) t }
+
+  -- ---- check
+
+  abbrev pub checkBy : ℕ → Bool → Checked
+  checkBy c d = record { code = c; used = cond d (usedSlots t) 0 }
+
+  -- one of 1, 2 and 3
+  pub check-refused-is : (c : ℕ) → c ≡ first sizes → (c ≡ 0 → ⊥) → checkWith bad W H s t ≡ checkBy c false
+  unfolding checkWith checkCode checkLines
+  check-refused-is = stops checkBy sizes (standLines W H s t)
+
+  pub check-fallen-is : first sizes ≡ 0 → stands W H s t ≡ false → checkWith bad W H s t ≡ checkBy 6 false
+  unfolding checkWith checkCode checkLines first
+  check-fallen-is e q = passes checkBy sizes (standLines W H s t) (unfold above in refl) e 6 (rw q)
+
+  pub check-done-is : first sizes ≡ 0 → stands W H s t ≡ true → checkWith bad W H s t ≡ checkBy 0 true
+  unfolding checkWith checkCode checkLines first
+  check-done-is e q = passes checkBy sizes (standLines W H s t) (unfold above in refl) e 0 (rw q)
 
   -- ---- run a block
 
@@ -27,42 +65,30 @@ module _ (bad : Bool) (W H : ℕ) (s : List ℤ) (t : List ℕ) where
     abbrev pub runAhead : List Line
     runAhead = sizes ++ (4 when badBlock (length b) ∷ 5 when badAnswers b a ∷ [])
 
-    abbrev ranTo : ℕ → State → Ran
-    ranTo c z = record { code = c; accepted = z .accepted; weights = z .weights; table = z .table; answers = z .answers }
+    abbrev pub runBy : ℕ → Bool → Ran
+    runBy c d =
+        let refused : State = record { weights = s; table = t; answers = a; accepted = 0 } in
+        let left : State = cond d (after W H b (started s t) (requests b)) refused in
+        record { code = c; accepted = left .accepted; weights = left .weights; table = left .table; answers = left .answers }
 
     abbrev pub runRefused : ℕ → Ran
-    runRefused c = record { code = c; accepted = 0; weights = s; table = t; answers = a }
+    runRefused c = runBy c false
 
     abbrev pub runDone : Ran
-    runDone = let end = after W H b (started s t) (requests b) in ranTo 0 end
-
-    run-code : runCode bad W H s t b a ≡ first (runAhead ++ standLines W H s t)
-    unfolding runCode runLines
-    run-code = refl
-
-    run-over : first runAhead ≡ 0 → runCode bad W H s t b a ≡ first (standLines W H s t)
-    run-over e = run-code ∙ first-over 0 runAhead (standLines W H s t) (unfold rising in refl) e
-
-    run-refuses : (c : ℕ) → runCode bad W H s t b a ≡ c → (c ≡ 0 → ⊥) → runWith bad W H s t b a ≡ runRefused c
-    unfolding runWith
-    run-refuses c e ne =
-        let z : eqb (runCode bad W H s t b a) 0 ≡ false = ne-eqb (runCode bad W H s t b a) 0 (λ z. ne (sym e ∙ z)) in
-        rw (z, e)
+    runDone = runBy 0 true
 
     -- one of 1 to 5
     pub run-refused-is : (c : ℕ) → c ≡ first runAhead → (c ≡ 0 → ⊥) → runWith bad W H s t b a ≡ runRefused c
-    run-refused-is c e ne = run-refuses c (run-code ∙ first-stop runAhead (standLines W H s t) (λ z. ne (e ∙ z)) ∙ sym e) ne
+    unfolding runWith runCode runLines
+    run-refused-is = stops runBy runAhead (standLines W H s t)
 
     pub run-fallen-is : first runAhead ≡ 0 → stands W H s t ≡ false → runWith bad W H s t b a ≡ runRefused 6
-    unfolding first
-    run-fallen-is e q = run-refuses 6 (run-over e ∙ rw q) (λ z. omega arith)
+    unfolding runWith runCode runLines first
+    run-fallen-is e q = passes runBy runAhead (standLines W H s t) (unfold above in refl) e 6 (rw q)
 
     pub run-done-is : first runAhead ≡ 0 → stands W H s t ≡ true → runWith bad W H s t b a ≡ runDone
-    unfolding runWith first
-    run-done-is e q =
-        let k : runCode bad W H s t b a ≡ 0 = run-over e ∙ rw q in
-        let z : eqb (runCode bad W H s t b a) 0 ≡ true = eq-eqb (runCode bad W H s t b a) 0 k in
-        rw (z, k)
+    unfolding runWith runCode runLines first
+    run-done-is e q = passes runBy runAhead (standLines W H s t) (unfold above in refl) e 0 (rw q)
 
   -- ---- list
 
@@ -70,40 +96,32 @@ module _ (bad : Bool) (W H : ℕ) (s : List ℤ) (t : List ℕ) where
     abbrev behind : List Line
     behind = standLines W H s t ++ (7 when shortRoom W H t room ∷ [])
 
+    abbrev pub listBy : ℕ → Bool → Listed
+    listBy c d = record { code = c; entries = cond d (length (entriesOf W H t)) 0; corners = cond d (corners W H t) 0; room = cond d (roomAfter W H t room) room }
+
     abbrev pub listRefused : ℕ → Listed
-    listRefused c = record { code = c; entries = 0; corners = 0; room = room }
+    listRefused c = listBy c false
 
     abbrev pub listDone : Listed
-    listDone = record { code = 0; entries = length (entriesOf W H t); corners = corners W H t; room = roomAfter W H t room }
-
-    list-code : listCode bad W H s t room ≡ first (sizes ++ behind)
-    unfolding listCode listLines
-    list-code = refl
-
-    list-over : first sizes ≡ 0 → listCode bad W H s t room ≡ first behind
-    list-over e = list-code ∙ first-over 0 sizes behind (unfold rising in refl) e
-
-    list-refuses : (c : ℕ) → listCode bad W H s t room ≡ c → (c ≡ 0 → ⊥) → listWith bad W H s t room ≡ listRefused c
-    unfolding listWith
-    list-refuses c e ne =
-        let z : eqb (listCode bad W H s t room) 0 ≡ false = ne-eqb (listCode bad W H s t room) 0 (λ z. ne (sym e ∙ z)) in
-        rw (z, e)
+    listDone = listBy 0 true
 
     -- one of 1, 2 and 3
     pub list-refused-is : (c : ℕ) → c ≡ first sizes → (c ≡ 0 → ⊥) → listWith bad W H s t room ≡ listRefused c
-    list-refused-is c e ne = list-refuses c (list-code ∙ first-stop sizes behind (λ z. ne (e ∙ z)) ∙ sym e) ne
+    unfolding listWith listCode listLines
+    list-refused-is = stops listBy sizes behind
+
+    list-over : first sizes ≡ 0 → (c : ℕ) → first behind ≡ c → listWith bad W H s t room ≡ listBy c (eqb c 0)
+    unfolding listWith listCode listLines
+    list-over = passes listBy sizes behind (unfold above in refl)
 
     pub list-fallen-is : first sizes ≡ 0 → stands W H s t ≡ false → listWith bad W H s t room ≡ listRefused 6
     unfolding first
-    list-fallen-is e q = list-refuses 6 (list-over e ∙ rw q) (λ z. omega arith)
+    list-fallen-is e q = list-over e 6 (rw q)
 
     pub list-short-is : first sizes ≡ 0 → stands W H s t ≡ true → shortRoom W H t room ≡ true → listWith bad W H s t room ≡ listRefused 7
     unfolding first
-    list-short-is e q f = list-refuses 7 (list-over e ∙ rw (q, f)) (λ z. omega arith)
+    list-short-is e q f = list-over e 7 (rw (q, f))
 
     pub list-done-is : first sizes ≡ 0 → stands W H s t ≡ true → shortRoom W H t room ≡ false → listWith bad W H s t room ≡ listDone
-    unfolding listWith first
-    list-done-is e q f =
-        let k : listCode bad W H s t room ≡ 0 = list-over e ∙ rw (q, f) in
-        let z : eqb (listCode bad W H s t room) 0 ≡ true = eq-eqb (listCode bad W H s t room) 0 k in
-        rw (z, k)
+    unfolding first
+    list-done-is e q f = list-over e 0 (rw (q, f))

@@ -1,17 +1,17 @@
 -- Empty and maximal rectangles: the tests say what the declarative definitions say, and the list holds exactly the maximal ones. Assumes nothing.
-use mathlib.Core.Path.{_≡_, refl, sym, ap, _∙_}
-use mathlib.Core.Bool.{Bool, true, false, not, _&&_, _||_}
-use mathlib.Core.Logic.{_⊎_, inl, inr, ⊎-elim, _↔_}
-use mathlib.Core.List.{List, [], _∷_, List·Memᴰ, List·Memᴰ·head, List·Memᴰ·eq-of-singleton}
-use Prim.Native.Nat.{ℕ, zero, suc, _+_, _-_, _≤_, _<_}
+use mathlib.Core.Path.{_≡_, refl, ap}
+use mathlib.Core.Bool.{Bool, true, false, not, _||_}
+use mathlib.Core.Logic.{⊎-elim, _↔_}
+use mathlib.Core.List.{List·Memᴰ, List·Memᴰ·head}
+use Prim.Native.Nat.{ℕ, suc, _+_, _-_, _≤_, _<_}
 use native.Mathlib.Omega.{arith}
 use lib.Dec.{leb, eqb}
 use borrow.Author.Tests.{leb-true, le-leb, eqb-true, eq-eqb, not-true, not-false}
-use Rattle.rules.specs.Tests.{every, chain, keep, all}
-use Rattle.rules.specs.Surface.{rect}
+use Rattle.rules.specs.Tests.{every, all}
 use Rattle.rules.specs.Empties.{onSurface, cellsEmpty, empty, Empty, Inside, Maximal, contains, sameRect, spanning, rects, maximal, entries}
 use Rattle.rules.specs.declared.Rect.{Rect}
-use Rattle.rules.proofs.Tests.{and-left, and-right, and-both, and-four, four-and, and-fails, or-which, or-left, or-right, or-neither, decide, not-both, every-at, every-yes, keep-mem, mem-keep, all-at, all-yes, all-fails, chain-mem, mem-chain}
+use Rattle.meaning.proofs.Splits.{by-test, by-or}
+use Rattle.rules.proofs.Tests.{and-left, and-right, and-both, and-four, four-and, and-fails, or-left, or-right, or-neither, not-both, every-at, every-yes, keep-mem, mem-keep, all-at, all-yes, all-fails, chain-mem}
 
 pub rect-eq : (a b : Rect) → a .x ≡ b .x → a .y ≡ b .y → a .w ≡ b .w → a .h ≡ b .h → a ≡ b
 rect-eq a b p q r s = λ j. record { x = p j; y = q j; w = r j; h = s j }
@@ -54,7 +54,7 @@ module _ (W H : ℕ) (a : Rect) where
   unfolding onSurface
   on-onSurface o = four-and (le-leb _ _ (o .wide)) (le-leb _ _ (o .tall)) (le-leb _ _ (o .columns)) (le-leb _ _ (o .lines))
 
-  -- rects has every rectangle of the surface, and no other
+  -- rects has every rectangle of the surface
   pub rects-mem : On W H a → List·Memᴰ a (rects W H)
   unfolding rects
   rects-mem o =
@@ -65,25 +65,6 @@ module _ (W H : ℕ) (a : Rect) where
       (chain-mem _ (suc right) (a .x) (omega (arith, o .wide))
       (chain-mem _ (suc bottom) (a .y) (omega (arith, o .tall))
       (List·Memᴰ·head (rect-eq a (spanning bottom right (a .x) (a .y)) refl refl (omega (arith, o .wide)) (omega (arith, o .tall)))))))
-
-  pub mem-rects : List·Memᴰ a (rects W H) → On W H a
-  unfolding rects
-  mem-rects m =
-      let b = mem-chain _ H m in
-      let r = mem-chain _ W (b .2) in
-      let l = mem-chain _ (suc (r .0)) (r .2) in
-      let t = mem-chain _ (suc (b .0)) (l .2) in
-      let e : a ≡ spanning (b .0) (r .0) (l .0) (t .0) = List·Memᴰ·eq-of-singleton (t .2) in
-      let ex : a .x ≡ l .0 = ap (λ (q : Rect). q .x) e in
-      let ey : a .y ≡ t .0 = ap (λ (q : Rect). q .y) e in
-      let ew : a .w ≡ suc (r .0) - l .0 = ap (λ (q : Rect). q .w) e in
-      let eh : a .h ≡ suc (b .0) - t .0 = ap (λ (q : Rect). q .h) e in
-      record {
-        wide = omega (arith, ew, l .1);
-        tall = omega (arith, eh, t .1);
-        columns = omega (arith, ex, ew, l .1, r .1);
-        lines = omega (arith, ey, eh, t .1, b .1);
-      }
 
 -- ---- empty
 
@@ -113,13 +94,7 @@ module _ (occ : ℕ → ℕ → Bool) (W H : ℕ) where
   empty-is a = (
     (λ e.
         let o = onSurface-on W H a (and-left (onSurface W H a) (cellsEmpty occ a) e) in
-        record {
-          wide = o .wide;
-          tall = o .tall;
-          columns = o .columns;
-          lines = o .lines;
-          free = cellsEmpty-at a (and-right (onSurface W H a) (cellsEmpty occ a) e);
-        }),
+        record { wide = o .wide; tall = o .tall; columns = o .columns; lines = o .lines; free = cellsEmpty-at a (and-right (onSurface W H a) (cellsEmpty occ a) e) }),
     (λ e. and-both (on-onSurface W H a (empty-on e)) (cellsEmpty-yes a (e .free))),
   )
 
@@ -134,6 +109,13 @@ module _ (occ : ℕ → ℕ → Bool) (W H : ℕ) where
   }
 
   -- ---- maximal
+
+  -- a maximal rectangle lies in no other that is empty
+  pub not-larger : {A : Type 0} {a : Rect} → Maximal occ W H a → (b : Rect) → Inside a b → a .w + a .h < b .w + b .h → b .x + b .w ≤ W → b .y + b .h ≤ H →
+      ((x y : ℕ) → b .x ≤ x → x < b .x + b .w → b .y ≤ y → y < b .y + b .h → occ x y ≡ false) → A
+  not-larger {A} {a} m b i l c h f =
+      let e = m .most b (record { wide = omega (arith, m .isEmpty .wide, i); tall = omega (arith, m .isEmpty .tall, i); columns = c; lines = h; free = f }) i in
+      absurd (omega (arith, ap (λ (r : Rect). r .w + r .h) e))
 
   -- another empty rectangle that contains a
   pub record Larger (a : Rect) : Type 0 where
@@ -169,24 +151,18 @@ module _ (occ : ℕ → ℕ → Bool) (W H : ℕ) where
       isEmpty = empty-is a .0 (and-left (empty occ W H a) _ e);
       most = λ b f i.
           let t = all-at (unbeaten a) (rects W H) (and-right (empty occ W H a) _ e) (rects-mem W H b (empty-on f)) in
-          ⊎-elim
-          (λ (q : (not (contains b a) || sameRect b a) ≡ true).
-          ⊎-elim
-          (λ (z : not (contains b a) ≡ true). not-both (contains b a) (inside-contains b a i) (not-true _ z))
-          (λ (z : sameRect b a ≡ true). sameRect-eq b a z)
-          (or-which (not (contains b a)) (sameRect b a) q))
-          (λ (q : not (empty occ W H b) ≡ true). not-both (empty occ W H b) (empty-is b .1 f) (not-true _ q))
-          (or-which (not (contains b a) || sameRect b a) (not (empty occ W H b)) t);
+          by-or (not (contains b a) || sameRect b a) (not (empty occ W H b)) t
+          (λ q. by-or (not (contains b a)) (sameRect b a) q (λ z. not-both (contains b a) (inside-contains b a i) (not-true _ z)) (sameRect-eq b a))
+          (λ q. not-both (empty occ W H b) (empty-is b .1 f) (not-true _ q));
     }),
-    (λ m. and-both (empty-is a .1 (m .isEmpty)) (all-yes (unbeaten a) (rects W H) (λ b n. beaten m b (decide (contains b a)) (decide (empty occ W H b))))),
+    (λ m. and-both (empty-is a .1 (m .isEmpty)) (all-yes (unbeaten a) (rects W H) (λ b n.
+        by-test (contains b a)
+        (λ c.
+        by-test (empty occ W H b)
+        (λ f. or-left _ _ (or-right (not (contains b a)) (sameRect b a) (eq-sameRect b a (m .most b (empty-is b .0 f) (contains-inside b a c)))))
+        (λ f. or-right (not (contains b a) || sameRect b a) _ (ap not f)))
+        (λ c. or-left _ _ (or-left _ _ (ap not c)))))),
   )
-    where
-      beaten : Maximal occ W H a → (b : Rect) → (contains b a ≡ true) ⊎ (contains b a ≡ false) → (empty occ W H b ≡ true) ⊎ (empty occ W H b ≡ false) → unbeaten a b ≡ true
-      beaten m b (inl c) (inl f) =
-          or-left _ _ (or-right (not (contains b a)) (sameRect b a) (eq-sameRect b a (m .most b (empty-is b .0 f) (contains-inside b a c))))
-      beaten m b (inl c) (inr f) = or-right (not (contains b a) || sameRect b a) _ (ap not f)
-      beaten m b (inr c) (inl f) = or-left _ _ (or-left _ _ (ap not c))
-      beaten m b (inr c) (inr f) = or-left _ _ (or-left _ _ (ap not c))
 
   -- THE LIST HOLDS EXACTLY THE MAXIMAL EMPTY RECTANGLES
   pub entries-are : (a : Rect) → List·Memᴰ a (entries occ W H) ↔ Maximal occ W H a

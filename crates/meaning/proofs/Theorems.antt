@@ -1,8 +1,8 @@
 -- THE THEOREMS about the rules, each under the sentence that it answers. The proofs stand in the files that the `use` lines name. No axiom is used.
-use mathlib.Core.Path.{_≡_}
+use mathlib.Core.Path.{_≡_, refl}
 use mathlib.Core.Bool.{Bool, true, not}
 use mathlib.Core.Logic.{_↔_}
-use mathlib.Core.List.{List, List·Memᴰ}
+use mathlib.Core.List.{List, _∷_, _++_, List·Memᴰ}
 use mathlib.Core.Option.{some}
 use Prim.Native.Nat.{ℕ, _+_, _-_, _*_, _≤_, _<_}
 use lib.IntN.{ℤ, pos}
@@ -10,9 +10,10 @@ use lib.ListN.{length}
 use lib.Signed.{ltZ}
 use Rattle.rules.specs.Surface.{occupied, cell, stands}
 use Rattle.rules.specs.Empties.{empty, maximal, Empty, Maximal, entries, Earlier, Ordered, scanned, corner, corners}
-use Rattle.rules.specs.Judging.{first}
-use Rattle.rules.specs.Requests.{position, rulePlace, judging, stepOf}
-use Rattle.rules.specs.Calls.{clearLines, clearCode, checkLines, checkCode, runLines, runCode, listLines, listCode}
+use Rattle.rules.specs.Judging.{Line, first, NoneApplies, FirstThat}
+use Rattle.meaning.specs.Numbers.{above, hasCode, differ, rising}
+use Rattle.rules.specs.Requests.{position, rulePlace, soundLines, placeLines, judging, stepOf}
+use Rattle.rules.specs.Calls.{clearLines, checkLines, runLines, listLines}
 use Rattle.rules.specs.declared.Rect.{Rect}
 use Rattle.rules.specs.declared.Step.the-variants.{Refused}
 use Rattle.meaning.proofs.Rectangles as R
@@ -21,9 +22,9 @@ use Rattle.meaning.proofs.Bound as B
 use Rattle.meaning.proofs.Weights as S
 use Rattle.meaning.proofs.Corners as C
 use Rattle.meaning.proofs.Choice as P
-use Rattle.meaning.proofs.Choice.{ByRule}
-use Rattle.meaning.proofs.Lowest as L
-use Rattle.meaning.proofs.Lowest.{Lowest}
+use Rattle.meaning.specs.Rule.{ByRule}
+use Rattle.meaning.proofs.First as L
+use Rattle.meaning.proofs.Steps as T
 
 -- ---- "A rectangle is empty when it lies on the surface and all its cells are empty. It is maximal when no other empty rectangle contains it."
 
@@ -82,27 +83,55 @@ rule-place-is = P.rulePlace-is
 pub rule-place-empty : (occ : ℕ → ℕ → Bool) (W H rule w h : ℕ) → 1 ≤ w → 1 ≤ h → (r : Rect) → rulePlace occ W H rule w h ≡ some r → Empty occ W H r
 rule-place-empty = P.rulePlace-empty
 
--- ---- "The lowest code that applies is given", "lowest first": 0 where none applies
+-- ---- "refused by number, in a fixed order": the code is that of the first line that applies, 0 where none does
 
-pub request-lowest : (W H : ℕ) (t q : List ℕ) → Lowest (judging W H t q) (first (judging W H t q))
-request-lowest = L.judging-lowest
+pub first-given : (ls : List Line) → FirstThat ls (first ls)
+first-given = L.first-is
+
+-- it is one
+pub first-one : (ls : List Line) (c d : ℕ) → FirstThat ls c → FirstThat ls d → c ≡ d
+first-one = L.first-one
 
 -- a step that is no refusal has code 0, and a refusal has another: `Refused 0` is never given
 pub refused-code : (W H : ℕ) (t q : List ℕ) (c : ℕ) → stepOf W H t q ≡ Refused c → 11 ≤ c
-refused-code = L.refused-code
+refused-code = T.refused-code
 
-pub clear-lowest : (bad : Bool) (W H : ℕ) (t : List ℕ) → Lowest (clearLines bad W H t) (clearCode bad W H t)
-unfolding clearCode
-clear-lowest = L.clear-lowest
+-- ---- "Given exactly when": where no code is 0 and no two are the same, a code names its line: it is given exactly when this line applies and none before it does
 
-pub check-lowest : (bad : Bool) (W H : ℕ) (s : List ℤ) (t : List ℕ) → Lowest (checkLines bad W H s t) (checkCode bad W H s t)
-unfolding checkCode
-check-lowest = L.check-lowest
+pub given-exactly : (ls : List Line) (c : ℕ) → above 0 ls ≡ true → differ ls ≡ true → FirstThat ls c →
+    (before : List Line) (l : Line) (behind : List Line) → ls ≡ before ++ (l ∷ behind) → (c ≡ l .code) ↔ (NoneApplies before × (l .applies ≡ true))
+given-exactly = L.exactly
 
-pub run-lowest : (bad : Bool) (W H : ℕ) (s : List ℤ) (t b a : List ℕ) → Lowest (runLines bad W H s t b a) (runCode bad W H s t b a)
-unfolding runCode
-run-lowest = L.run-lowest
+-- and 0, "done", exactly when none does
+pub done-exactly : (ls : List Line) (c : ℕ) → above 0 ls ≡ true → FirstThat ls c → (c ≡ 0) ↔ NoneApplies ls
+done-exactly = L.done-exactly
 
-pub list-lowest : (bad : Bool) (W H : ℕ) (s : List ℤ) (t room : List ℕ) → Lowest (listLines bad W H s t room) (listCode bad W H s t room)
-unfolding listCode
-list-lowest = L.list-lowest
+-- ---- "The lowest code that applies is given", "lowest first": where the numbers rise from line to line, no line that applies has a lower code
+
+pub lowest-given : (ls : List Line) (c : ℕ) → rising ls ≡ true → FirstThat ls c → (l : Line) → List·Memᴰ l ls → l .applies ≡ true → c ≤ l .code
+lowest-given = L.lowest
+
+-- ---- each of the five lists is so: no code is 0, no two are the same, and they rise
+
+abbrev pub Numbered : List Line → Type 0
+Numbered ls = (above 0 ls ≡ true) × (differ ls ≡ true) × (rising ls ≡ true)
+
+pub request-numbers : (W H : ℕ) (t q : List ℕ) → Numbered (judging W H t q)
+unfolding soundLines placeLines above hasCode differ rising
+request-numbers W H t q = (refl, refl, refl)
+
+pub clear-numbers : (bad : Bool) (W H : ℕ) (t : List ℕ) → Numbered (clearLines bad W H t)
+unfolding clearLines above hasCode differ rising
+clear-numbers bad W H t = (refl, refl, refl)
+
+pub check-numbers : (bad : Bool) (W H : ℕ) (s : List ℤ) (t : List ℕ) → Numbered (checkLines bad W H s t)
+unfolding checkLines above hasCode differ rising
+check-numbers bad W H s t = (refl, refl, refl)
+
+pub run-numbers : (bad : Bool) (W H : ℕ) (s : List ℤ) (t b a : List ℕ) → Numbered (runLines bad W H s t b a)
+unfolding runLines above hasCode differ rising
+run-numbers bad W H s t b a = (refl, refl, refl)
+
+pub list-numbers : (bad : Bool) (W H : ℕ) (s : List ℤ) (t room : List ℕ) → Numbered (listLines bad W H s t room)
+unfolding listLines above hasCode differ rising
+list-numbers bad W H s t room = (refl, refl, refl)

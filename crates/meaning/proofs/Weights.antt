@@ -1,10 +1,9 @@
 -- What a weight tells: the run of empty cells that ends in a cell, and the sign. Callers cite these laws and never the text of `weight`. Assumes nothing.
-use mathlib.Core.Path.{_≡_, refl, sym, ap, ap₂, _∙_}
-use mathlib.Core.Bool.{Bool, true, false, not, cond, true≢false}
-use mathlib.Core.Logic.{⊎-elim}
+use mathlib.Core.Path.{_≡_, sym, ap, ap₂, _∙_}
+use mathlib.Core.Bool.{Bool, true, false, not, true≢false}
 use mathlib.Core.List.{List}
 use Prim.Native.Nat.{ℕ, zero, suc, _+_, _-_, _*_, _/_, _%_, _≤_, _<_}
-use native.Mathlib.Nat.{le-refl, eq-or-lt-of-le, mul-comm, mod-lt, div-add-mod', div-lt-iff-lt-mul}
+use native.Mathlib.Nat.{le-refl, mul-comm, mod-lt, div-add-mod', div-lt-iff-lt-mul}
 use native.Mathlib.Omega.{arith}
 use lib.Arith.{digits-lt, digits-div, digits-mod}
 use lib.Dec.{leb, ltb}
@@ -14,8 +13,10 @@ use lib.Seq.{ext-getD}
 use lib.Signed.{ltZ}
 use borrow.Author.Tests.{leb-true, ltb-true, lt-ltb}
 use Rattle.rules.specs.Tests.{every, eqZ}
-use Rattle.rules.specs.Surface.{covers, slots, rectOf, usedSlot, holds, occupied, holder, upwards, remaining, weight, cell, fresh, slotsSound, idsDiffer, modulesApart, weightsRight, stands}
+use Rattle.rules.specs.Surface.{covers, slots, rectOf, usedSlot, holds, occupied, holder, upwards, number, remaining, weight, cell, fresh, slotsSound, idsDiffer, modulesApart, weightsRight, stands}
 use Rattle.rules.specs.declared.Rect.{Rect}
+use Rattle.meaning.specs.Column.{numberAt}
+use Rattle.meaning.proofs.Splits.{split, by-test, by-less, by-same}
 use Rattle.rules.proofs.Tests.{and-left, and-right, and-four, any-at, least-is, every-at, every-yes, eqZ-true, eqZ-same, length-tab, getD-tab}
 
 -- ---- the run of empty cells that ends in cell (x, y)
@@ -23,16 +24,8 @@ use Rattle.rules.proofs.Tests.{and-left, and-right, and-four, any-at, least-is,
 module _ (occ : ℕ → ℕ → Bool) (x : ℕ) where
   pub upwards-le : (y : ℕ) → upwards occ x y ≤ suc y
   unfolding upwards
-  upwards-le zero = go (occ x 0)
-    where
-      go : (t : Bool) → cond t 0 1 ≤ 1
-      go true = omega arith
-      go false = omega arith
-  upwards-le (suc y) = go (occ x (suc y)) (upwards-le y)
-    where
-      go : (t : Bool) → upwards occ x y ≤ suc y → cond t 0 (suc (upwards occ x y)) ≤ suc (suc y)
-      go true h = omega arith
-      go false h = omega arith
+  upwards-le zero = split (λ n. n ≤ 1) (occ x 0) (λ e. omega arith) (λ e. omega arith)
+  upwards-le (suc y) = split (λ n. n ≤ suc (suc y)) (occ x (suc y)) (λ e. omega arith) (λ e. omega (arith, upwards-le y))
 
   -- none ends in an occupied cell
   pub upwards-taken : (y : ℕ) → occ x y ≡ true → upwards occ x y ≡ 0
@@ -43,20 +36,10 @@ module _ (occ : ℕ → ℕ → Bool) (x : ℕ) where
   -- its cells are empty
   pub upwards-free : (y r : ℕ) → r ≤ y → suc y ≤ r + upwards occ x y → occ x r ≡ false
   unfolding upwards
-  upwards-free zero r p q = go (occ x 0) refl q
-    where
-      go : (t : Bool) → occ x 0 ≡ t → 1 ≤ r + cond t 0 1 → occ x r ≡ false
-      go true s h = absurd (omega arith)
-      go false s h = let z : r ≡ 0 = omega arith in rw z s
-  upwards-free (suc y) r p q = go (occ x (suc y)) refl q (upwards-free y r)
-    where
-      go : (t : Bool) → occ x (suc y) ≡ t → suc (suc y) ≤ r + cond t 0 (suc (upwards occ x y)) → (r ≤ y → suc y ≤ r + upwards occ x y → occ x r ≡ false) → occ x r ≡ false
-      go true s h ih = absurd (omega arith)
-      go false s h ih =
-          ⊎-elim
-          (λ (z : r ≡ suc y). rw z s)
-          (λ (z : r < suc y). ih (omega arith) (omega arith))
-          (eq-or-lt-of-le p)
+  upwards-free zero r p q = split (λ n. 1 ≤ r + n → occ x r ≡ false) (occ x 0) (λ s h. absurd (omega arith)) (λ s h. let z : r ≡ 0 = omega arith in rw z s) q
+  upwards-free (suc y) r p q =
+      split (λ n. suc (suc y) ≤ r + n → occ x r ≡ false) (occ x (suc y)) (λ s h. absurd (omega arith))
+      (λ s h. by-same r (suc y) (λ z. rw z s) (λ ne. upwards-free y r (omega arith) (omega arith))) q
 
   -- and it is as long as the empty cells reach
   pub upwards-ge : (y h : ℕ) → h ≤ suc y → ((r : ℕ) → r ≤ y → suc y ≤ r + h → occ x r ≡ false) → h ≤ upwards occ x y
@@ -80,6 +63,18 @@ covers-within r x y e =
     let f = and-four (leb (r .x) x) (ltb x (r .x + r .w)) (leb (r .y) y) (ltb y (r .y + r .h)) e in
     record { left = leb-true _ _ (f .0); right = ltb-true _ _ (f .1); top = leb-true _ _ (f .2); bottom = ltb-true _ _ (f .3) }
 
+-- ---- the number of an occupied cell. Nobody looks into it: these two laws are all that is asked of it
+
+-- a cell that a module has gets a number that is not 0
+pub number-some : (i : ℕ) (r : Rect) (x y : ℕ) → covers r x y ≡ true → 1 ≤ number i r x
+unfolding number
+number-some i r x y e = omega (arith, covers-within r x y e .right)
+
+-- a module in one of at most 256 slots, on a surface that is at most 64 wide, gives numbers that 16 bits hold
+pub number-few : (i : ℕ) (r : Rect) (c : ℕ) → i < 256 → r .x + r .w ≤ 64 → number i r c ≤ 256
+unfolding number
+number-few i r c s w = omega arith
+
 -- ---- the sign of a weight
 
 module _ (t : List ℕ) (x y : ℕ) where
@@ -97,23 +92,24 @@ module _ (t : List ℕ) (x y : ℕ) where
   holder-low e =
       let w = any-at (slots t) (holds t x y) e in
       let l = least-is (slots t) (holds t x y) in
-      ⊎-elim
-      (λ (q : holder t x y ≡ slots t). absurd (true≢false (sym (w .2) ∙ l .before (w .0) (omega arith) (omega (arith, w .1)))))
-      (λ (q : holder t x y < slots t). q)
-      (eq-or-lt-of-le (let u : holder t x y ≤ slots t = omega (arith, l .upto) in u))
+      by-less (holder t x y) (slots t) (λ q. q) (λ q. absurd (true≢false (sym (w .2) ∙ l .before (w .0) (omega arith) (omega (arith, w .1)))))
 
   pub holder-holds : occupied t x y ≡ true → holds t x y (holder t x y) ≡ true
   unfolding holder
   holder-holds e = let h = holder-low e in least-is (slots t) (holds t x y) .here (omega arith)
 
-  -- the width that remains, at least 1
-  pub weight-occupied : occupied t x y ≡ true → (k : ℕ) × (weight t x y ≡ negsuc k)
+  -- its number is not 0, and the weight is that number's negative
+  pub number-at : occupied t x y ≡ true → 1 ≤ numberAt t x y
+  number-at e = number-some (holder t x y) (rectOf t (holder t x y)) x y (holds-covers (holder t x y) (holder-holds e))
+
+  pub weight-number : occupied t x y ≡ true → weight t x y ≡ negℤ (pos (numberAt t x y))
   unfolding weight remaining
+  weight-number e = rw e
+
+  pub weight-occupied : occupied t x y ≡ true → (k : ℕ) × (weight t x y ≡ negsuc k)
   weight-occupied e =
-      let r = rectOf t (holder t x y) in
-      let i = covers-within r x y (holds-covers (holder t x y) (holder-holds e)) in
-      let q : r .x + r .w - x ≡ suc (r .x + r .w - x - 1) = omega (arith, i .right) in
-      (r .x + r .w - x - 1, rw e (ap (λ n. negℤ (pos n)) q))
+      let q : numberAt t x y ≡ suc (numberAt t x y - 1) = omega (arith, number-at e) in
+      (numberAt t x y - 1, weight-number e ∙ ap (λ n. negℤ (pos n)) q)
 
   pub weight-empty : occupied t x y ≡ false → weight t x y ≡ pos (upwards (occupied t) x y)
   unfolding weight
@@ -125,11 +121,10 @@ module _ (t : List ℕ) (x y : ℕ) where
 
   -- A WEIGHT IS POSITIVE EXACTLY WHEN THE CELL IS EMPTY
   pub weight-sign : ltZ (pos 0) (weight t x y) ≡ not (occupied t x y)
-  weight-sign = go (occupied t x y) refl
-    where
-      go : (b : Bool) → occupied t x y ≡ b → ltZ (pos 0) (weight t x y) ≡ not b
-      go true e = ap (ltZ (pos 0)) (weight-occupied e .1)
-      go false e = ap (ltZ (pos 0)) (weight-empty e) ∙ lt-ltb 0 _ (upwards-pos e)
+  weight-sign =
+      by-test (occupied t x y)
+      (λ e. ap (ltZ (pos 0)) (weight-occupied e .1) ∙ sym (ap not e))
+      (λ e. ap (ltZ (pos 0)) (weight-empty e) ∙ lt-ltb 0 _ (upwards-pos e) ∙ sym (ap not e))
 
 -- ---- the weights of a surface that stands
 

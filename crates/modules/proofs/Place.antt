@@ -5,15 +5,32 @@ use mathlib.Core.List.{List}
 use Prim.Native.Nat.{ℕ, zero, suc, _+_, _<_}
 use native.Mathlib.Omega.{arith}
 use lib.IntN.{ℤ}
-use Rattle.cells.specs.Weight.{takenZ, untaken}
+use Rattle.cells.specs.Weight.{takenZ, countOf, untaken}
 use Rattle.rules.specs.Surface.{Standing, occupied, cell}
 use Rattle.rules.specs.Empties.{cellsEmpty}
 use Rattle.rules.specs.declared.Rect.{Rect}
 use Rattle.rules.proofs.Tests.{every-same}
 use Rattle.meaning.proofs.Weights.{stands-cell}
-use Rattle.modules.specs.Column.{column, isTaken}
-use Rattle.modules.specs.Walk.{On}
-use Rattle.modules.proofs.Column.{taken-is, column-taken, column-empty, weight-column}
+use Rattle.meaning.specs.Column.{column, isTaken, run, weigh, next, weightIn}
+use Rattle.meaning.specs.Change.{On}
+use Rattle.meaning.proofs.Columns.{column-taken, column-empty, weight-column}
+
+-- a weight says whether the cell is empty, and how long the run is that ends with it
+taken-weigh : (v k : ℕ) → takenZ (weigh v k) ≡ isTaken v
+taken-weigh zero k = refl
+taken-weigh (suc v) k = refl
+
+count-weigh : (v k : ℕ) → countOf (weigh v k) ≡ next v k
+count-weigh zero k = refl
+count-weigh (suc v) k = refl
+
+pub taken-is : (f : ℕ → ℕ) (r : ℕ) → takenZ (weightIn f r) ≡ isTaken (f r)
+unfolding weightIn
+taken-is f r = taken-weigh (f r) (run f r)
+
+pub count-is : (f : ℕ → ℕ) (r : ℕ) → countOf (weightIn f r) ≡ run f (suc r)
+unfolding weightIn run
+count-is f r = count-weigh (f r) (run f r)
 
 is-taken : (t : List ℕ) (c r : ℕ) → isTaken (column t c r) ≡ occupied t c r
 is-taken t c r = go (occupied t c r) refl

@@ -10,9 +10,11 @@ use lib.IntN.{ℤ, pos, negℤ}
 use lib.ListN.{length, set, length-set}
 use Rattle.cells.specs.Weight.{takenZ, countOf}
 use Rattle.rules.specs.Surface.{cell}
-use Rattle.modules.specs.Column.{run, weightIn, isTaken, over}
-use Rattle.modules.specs.Walk.{Holds, Only, Filled, Ready, Recounted, runAbove, ColumnAdded, ColumnRemoved}
-use Rattle.modules.proofs.Column.{lt-or-le, run-same, run-on, run-end, weight-same, weight-after, empty-weight, taken-weight, taken-is, count-is, over-in, over-low, over-high}
+use Rattle.meaning.specs.Column.{run, weightIn, isTaken, over, Holds}
+use Rattle.modules.specs.Walk.{Only, Filled, Ready, Recounted, runAbove, ColumnAdded, ColumnRemoved}
+use Rattle.meaning.proofs.Columns.{run-same, run-on, run-end, weight-same, weight-after, empty-weight, taken-weight, over-in, over-low, over-high}
+use Rattle.modules.proofs.Place.{taken-is, count-is}
+use Rattle.rules.proofs.Tests.{lt-or-le}
 use Rattle.modules.proofs.Grid.{cell-same, cell-column, cell-row}
 
 only-none : (W c : ℕ) (s : List ℤ) → Only W c s s
@@ -104,20 +106,47 @@ module _ (W H c a k r n : ℕ) (s₀ s : List ℤ) (d : Counting W H c a k r n s
 
 -- ---- a column of a module
 
-module _ (W H c y n v : ℕ) (s u t : List ℤ) (fits : y + n ≤ H) where
-  pub column-added : 1 ≤ n → 1 ≤ v → Filled W c y n (negℤ (pos v)) s u → Recounted W H c (y + n) 0 u t → ColumnAdded W H c y n v s t
-  column-added hn hv a b = record { only = only-then (a .only) (b .only); told = told }
+-- the column f is filled and counted anew, from row a of the module's or the one below it: it is g where g is f in all other rows, the rows above a
+-- have g's weight, those from a on are empty, and so is the count
+module _ (W H c y n a k : ℕ) (v : ℤ) (s u t : List ℤ) (w : Filled W c y n v s u) (b : Recounted W H c a k u t) (f g : ℕ → ℕ) (h : Holds W H c f s) where
+  column-told : y ≤ a → a ≤ y + n → ((r : ℕ) → r < y → f r ≡ g r) → ((r : ℕ) → y + n ≤ r → f r ≡ g r) → ((r : ℕ) → y ≤ r → r < a → v ≡ weightIn g r) →
+      ((r : ℕ) → a ≤ r → r < y + n → (takenZ v ≡ false) × (g r ≡ 0)) → run g a ≡ k → Holds W H c g t
+  column-told ya an low high kept empty start r lt =
+      ⊎-elim
+      (λ (hi : r < a). b .above r hi
+      ∙ ⊎-elim
+      (λ (lo : r < y). w .above r lo ∙ h r lt ∙ weight-same f g r (λ i l. low i (omega arith)))
+      (λ (lo : y ≤ r). w .inside r lo (omega arith) ∙ kept r lo hi)
+      (lt-or-le r y))
+      (λ (ge : a ≤ r). b .down g ready r ge lt)
+      (lt-or-le r a)
+    where
+      ready : Ready W H c a k g u
+      ready =
+          record {
+            start = start;
+            signs = λ q l m.
+                ⊎-elim
+                (λ (lt′ : q < y + n). ap takenZ (w .inside q (omega arith) lt′) ∙ empty q l lt′ .0 ∙ ap isTaken (sym (empty q l lt′ .1)))
+                (λ (ge : y + n ≤ q). ap takenZ (w .below q ge ∙ h q m) ∙ taken-is f q ∙ ap isTaken (high q ge))
+                (lt-or-le q (y + n));
+            settled = λ j q l m lt′ ne.
+                let past : y + n ≤ j = ⊎-elim (λ (lo : j < y + n). absurd (ne (empty j l lo .1))) (λ ge. ge) (lt-or-le j (y + n)) in
+                w .below q (omega arith) ∙ h q lt′ ∙ weight-after f g j q m (λ e. ne (sym (high j past) ∙ e)) (λ i b₁ b₂. high i (omega arith));
+          }
+
+module _ (W H c y n : ℕ) (s u t : List ℤ) (fits : y + n ≤ H) where
+  pub column-added : (v : ℕ) → 1 ≤ n → 1 ≤ v → Filled W c y n (negℤ (pos v)) s u → Recounted W H c (y + n) 0 u t → ColumnAdded W H c y n v s t
+  column-added v hn hv a b = record { only = only-then (a .only) (b .only); told = told }
     where
       told : (f : ℕ → ℕ) → Holds W H c f s → Holds W H c (over f y n v) t
-      told f h r lt =
-          ⊎-elim
-          (λ (hi : r < y + n). b .above r hi
-          ∙ ⊎-elim
-          (λ (lo : r < y). a .above r lo ∙ h r lt ∙ weight-same f (over f y n v) r (λ i l. sym (over-low f y n v i (omega arith))))
-          (λ (lo : y ≤ r). a .inside r lo hi ∙ sym (taken-weight (over f y n v) r v (over-in f y n v r lo hi) (λ z. omega arith)))
-          (lt-or-le r y))
-          (λ (ge : y + n ≤ r). b .down (over f y n v) ready r ge lt)
-          (lt-or-le r (y + n))
+      told f h =
+          column-told W H c y n (y + n) 0 _ s u t a b f g h (omega arith) (omega arith)
+          (λ r l. sym (over-low f y n v r l))
+          (λ r l. sym (over-high f y n v r l))
+          (λ r lo hi. sym (taken-weight g r v (over-in f y n v r lo hi) (λ z. omega arith)))
+          (λ r lo hi. absurd (omega arith))
+          start
         where
           g : ℕ → ℕ
           g = over f y n v
@@ -128,25 +157,17 @@ module _ (W H c y n v : ℕ) (s u t : List ℤ) (fits : y + n ≤ H) where
               ap (run g) (let e : y + n ≡ suc (y + n - 1) = omega arith in e)
               ∙ run-end g (y + n - 1) (λ z. let e : g (y + n - 1) ≡ v = over-in f y n v (y + n - 1) (omega arith) (omega arith) in omega arith)
 
-          ready : Ready W H c (y + n) 0 g u
-          ready =
-              record {
-                start = start;
-                signs = λ q l m. ap takenZ (a .below q l ∙ h q m) ∙ taken-is f q ∙ ap isTaken (sym (over-high f y n v q l));
-                settled = λ j q l m lt′ z.
-                    a .below q (omega arith) ∙ h q lt′
-                    ∙ weight-after f g j q m (λ e. z (over-high f y n v j l ∙ e)) (λ i b₁ b₂. sym (over-high f y n v i (omega arith)));
-              }
-
-  pub column-removed : (k : ℕ) → Filled W c y n (pos 1) s u → k ≡ runAbove W s c y → Recounted W H c y k u t → ColumnRemoved W H c y n v s t
+  pub column-removed : (k : ℕ) → Filled W c y n (pos 1) s u → k ≡ runAbove W s c y → Recounted W H c y k u t → ColumnRemoved W H c y n s t
   column-removed k a e b = record { only = only-then (a .only) (b .only); told = told }
     where
-      told : (f : ℕ → ℕ) → ((r : ℕ) → y ≤ r → r < y + n → f r ≡ 0) → Holds W H c (over f y n v) s → Holds W H c f t
-      told f z h r lt =
-          ⊎-elim
-          (λ (lo : r < y). b .above r lo ∙ a .above r lo ∙ h r lt ∙ weight-same g f r (λ i l. over-low f y n v i (omega arith)))
-          (λ (lo : y ≤ r). b .down f ready r lo lt)
-          (lt-or-le r y)
+      told : (v : ℕ) (f : ℕ → ℕ) → ((r : ℕ) → y ≤ r → r < y + n → f r ≡ 0) → Holds W H c (over f y n v) s → Holds W H c f t
+      told v f z h =
+          column-told W H c y n y k _ s u t a b g f h (omega arith) (omega arith)
+          (over-low f y n v)
+          (over-high f y n v)
+          (λ r lo hi. absurd (omega arith))
+          (λ r lo hi. (refl, z r lo hi))
+          (run-same f g y (λ i l. sym (over-low f y n v i l)) ∙ told-above y (omega arith) ∙ sym e)
         where
           g : ℕ → ℕ
           g = over f y n v
@@ -154,18 +175,3 @@ module _ (W H c y n v : ℕ) (s u t : List ℤ) (fits : y + n ≤ H) where
           told-above : (p : ℕ) → p ≤ H → run g p ≡ runAbove W s c p
           told-above zero l = unfold run in refl
           told-above (suc q) l = sym (ap countOf (h q l) ∙ count-is g q)
-
-          ready : Ready W H c y k f u
-          ready =
-              record {
-                start = run-same f g y (λ i l. sym (over-low f y n v i l)) ∙ told-above y (omega arith) ∙ sym e;
-                signs = λ q l m.
-                    ⊎-elim
-                    (λ (lt′ : q < y + n). ap takenZ (a .inside q l lt′) ∙ ap isTaken (sym (z q l lt′)))
-                    (λ (ge : y + n ≤ q). ap takenZ (a .below q ge ∙ h q m) ∙ taken-is g q ∙ ap isTaken (over-high f y n v q ge))
-                    (lt-or-le q (y + n));
-                settled = λ j q l m lt′ ne.
-                    let low : y + n ≤ j = ⊎-elim (λ (lo : j < y + n). absurd (ne (z j l lo))) (λ ge. ge) (lt-or-le j (y + n)) in
-                    a .below q (omega arith) ∙ h q lt′
-                    ∙ weight-after g f j q m (λ e′. ne (sym (over-high f y n v j low) ∙ e′)) (λ i b₁ b₂. over-high f y n v i (omega arith));
-              }

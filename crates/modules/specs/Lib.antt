@@ -1,4 +1,2 @@
--- One column of a surface, what the walks down it leave, and what a change of the modules asks and keeps.
-pub mod Column
+-- What the walks down a column, and from column to column, leave.
 pub mod Walk
-pub mod Change

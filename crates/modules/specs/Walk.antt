@@ -6,21 +6,14 @@ use Prim.Native.Nat.{ℕ, zero, suc, _+_, _*_, _≤_, _<_}
 use lib.IntN.{ℤ}
 use lib.ListN.{length}
 use Rattle.cells.specs.Weight.{takenZ, countOf}
-use Rattle.rules.specs.Surface.{covers, cell}
+use Rattle.rules.specs.Surface.{Sides, covers, cell}
 use Rattle.rules.specs.declared.Rect.{Rect}
-use Rattle.modules.specs.Column.{run, weightIn, isTaken, over, beside}
+use Rattle.meaning.specs.Column.{run, weightIn, isTaken, over, beside, Holds, HoldsAll}
 
 -- W and H are a surface's size, and s has a weight for each cell
 pub record Sized (W H : ℕ) (s : List ℤ) : Type 0 where
-  pub wide : 1 ≤ W
-  pub widest : W ≤ 64
-  pub high : 1 ≤ H
-  pub highest : H ≤ 64
+  pub sides : Sides W H
   pub long : length s ≡ W * H
-
--- column c of the weights is that of f
-abbrev pub Holds : ℕ → ℕ → ℕ → (ℕ → ℕ) → List ℤ → Type 0
-Holds W H c f s = (r : ℕ) → r < H → cell W s c r ≡ weightIn f r
 
 -- nothing outside column c is written
 pub record Only (W c : ℕ) (s t : List ℤ) : Type 0 where
@@ -56,32 +49,21 @@ pub record ColumnAdded (W H c y n v : ℕ) (s t : List ℤ) : Type 0 where
   pub only : Only W c s t
   pub told : (f : ℕ → ℕ) → Holds W H c f s → Holds W H c (over f y n v) t
 
--- they are given back
-pub record ColumnRemoved (W H c y n v : ℕ) (s t : List ℤ) : Type 0 where
+-- they are given back, whatever number they had
+pub record ColumnRemoved (W H c y n : ℕ) (s t : List ℤ) : Type 0 where
   pub only : Only W c s t
-  pub told : (f : ℕ → ℕ) → ((r : ℕ) → y ≤ r → r < y + n → f r ≡ 0) → Holds W H c (over f y n v) s → Holds W H c f t
-
--- the weights are those of the columns f
-abbrev pub HoldsAll : ℕ → ℕ → (ℕ → ℕ → ℕ) → List ℤ → Type 0
-HoldsAll W H f s = (c : ℕ) → c < W → Holds W H c (f c) s
+  pub told : (v : ℕ) (f : ℕ → ℕ) → ((r : ℕ) → y ≤ r → r < y + n → f r ≡ 0) → Holds W H c (over f y n v) s → Holds W H c f t
 
 -- no count above row y is more than the rows there are
 abbrev pub Shallow : ℕ → ℕ → List ℤ → Type 0
 Shallow W y s = (c : ℕ) → c < W → runAbove W s c y ≤ y
 
--- the module lies on the surface
-pub record On (W H : ℕ) (m : Rect) : Type 0 where
-  pub wide : 1 ≤ m .w
-  pub tall : 1 ≤ m .h
-  pub columns : m .x + m .w ≤ W
-  pub lines : m .y + m .h ≤ H
-
--- whatever the columns were, the module is in them besides
-pub record Added (W H : ℕ) (m : Rect) (s t : List ℤ) : Type 0 where
+-- whatever the columns were, the module is in them besides, its cells in column c with the number g c
+pub record Added (W H : ℕ) (m : Rect) (g : ℕ → ℕ) (s t : List ℤ) : Type 0 where
   pub long : length t ≡ length s
-  pub told : (f : ℕ → ℕ → ℕ) → HoldsAll W H f s → HoldsAll W H (beside m f) t
+  pub told : (f : ℕ → ℕ → ℕ) → HoldsAll W H f s → HoldsAll W H (beside m g f) t
 
--- whatever the columns are without the module, they are left
+-- whatever the columns are without the module, they are left, whatever numbers its cells had
 pub record Removed (W H : ℕ) (m : Rect) (s t : List ℤ) : Type 0 where
   pub long : length t ≡ length s
-  pub told : (f : ℕ → ℕ → ℕ) → ((c r : ℕ) → covers m c r ≡ true → f c r ≡ 0) → HoldsAll W H (beside m f) s → HoldsAll W H f t
+  pub told : (g : ℕ → ℕ) (f : ℕ → ℕ → ℕ) → ((c r : ℕ) → covers m c r ≡ true → f c r ≡ 0) → HoldsAll W H (beside m g f) s → HoldsAll W H f t

@@ -2,11 +2,9 @@
 // the next occupied cell below it, or the bottom edge; no other cell is touched.
 ghost use mathlib.Core.Path.{_≡_};
 ghost use Prim.Native.Nat.{ℕ, _+_, _*_, _≤_, _<_};
-ghost use lib.ListN.{length, set};
-ghost use Rattle.rules.specs.Surface.{rect, slots, recordOf, freeRecord, withRecord, fresh};
-ghost use Rattle.rules.specs.Requests.{hasId, slotOf, lowestFree};
-ghost use Rattle.modules.specs.Walk.{Sized, On, Shallow, Filled, Recounted, runAbove, ColumnAdded, ColumnRemoved, Added, Removed};
-ghost use Rattle.modules.specs.Change.{Placing, Taking, Bytes};
+ghost use Rattle.rules.specs.Surface.{rect, number, recordOf, freeRecord, withRecord, fresh};
+ghost use Rattle.modules.specs.Walk.{Sized, Shallow, Filled, Recounted, runAbove, ColumnAdded, ColumnRemoved, Added, Removed};
+ghost use Rattle.meaning.specs.Change.{On, Placing, Taking};
 use rules::Rect;
 
 // "cell (x, y) is number y·W + x"
@@ -17,13 +15,6 @@ fn number(w: usize, h: usize, c: usize, r: usize) -> usize
     r * w + c
 }
 
-fn put_weight(s: &mut [i16], i: usize, v: i16)
-    requires { ⌜ i < length (now s) ⌝ }
-    ensures { λ _. ⌜ now (s .exit) ≡ set (now (s .entry)) i v ⌝ }
-{
-    s[i] = v;
-}
-
 // The n cells of column c from row y get the weight v.
 fn fill(w: usize, h: usize, s: &mut [i16], c: usize, y: usize, n: usize, v: i16)
     requires { ⌜ Sized w h (now s) ⌝ }
@@ -31,7 +22,7 @@ fn fill(w: usize, h: usize, s: &mut [i16], c: usize, y: usize, n: usize, v: i16)
     ensures { λ _. ⌜ Filled w c y n v (now (s .entry)) (now (s .exit)) ⌝ }
 {
     for i in 0..n {
-        put_weight(s, number(w, h, c, y + i), v);
+        cells::put_weight(s, number(w, h, c, y + i), v);
     }
 }
 
@@ -80,18 +71,18 @@ fn add_column(w: usize, h: usize, s: &mut [i16], c: usize, y: usize, n: usize, v
 fn remove_column(w: usize, h: usize, s: &mut [i16], c: usize, y: usize, n: usize)
     requires { ⌜ Sized w h (now s) ⌝ }
     requires { ⌜ (c < w) × (y + n ≤ h) × (runAbove w (now s) c y ≤ y) ⌝ }
-    ensures { λ _. ⌜ ((v : ℕ) → ColumnRemoved w h c y n v (now (s .entry)) (now (s .exit))) ⌝ }
+    ensures { λ _. ⌜ ColumnRemoved w h c y n (now (s .entry)) (now (s .exit)) ⌝ }
 {
     let k = run_above(w, h, s, c, y);
     fill(w, h, s, c, y, n, 1);
     recount(w, h, s, c, y, k);
 }
 
-// The weights with one module more, at (x, y), mw by mh.
+// The weights with one module more, at (x, y), mw by mh, in whichever slot.
 fn add(w: usize, h: usize, s: &mut [i16], x: usize, y: usize, mw: usize, mh: usize)
     requires { ⌜ Sized w h (now s) ⌝ }
     requires { ⌜ On w h (rect x y mw mh) ⌝ }
-    ensures { λ _. ⌜ Added w h (rect x y mw mh) (now (s .entry)) (now (s .exit)) ⌝ }
+    ensures { λ _. ⌜ ((i : ℕ) → Added w h (rect x y mw mh) (number i (rect x y mw mh)) (now (s .entry)) (now (s .exit))) ⌝ }
 {
     let end = x + mw;
     let mut c = x;
@@ -116,30 +107,6 @@ fn remove(w: usize, h: usize, s: &mut [i16], x: usize, y: usize, mw: usize, mh: 
     }
 }
 
-fn byte_of(n: usize) -> u8
-    requires { ⌜ n < 256 ⌝ }
-    ensures { λ r. ⌜ r ≡ n ⌝ }
-{
-    n as u8
-}
-
-// "Bytes 0 and 1 are the id, low byte first, then x, y, w, h, then two zero bytes."
-fn put_record(t: &mut [u8], i: usize, low: u8, high: u8, r: Rect)
-    requires { ⌜ 8 * i + 8 ≤ length (now t) ⌝ }
-    requires { ⌜ Bytes r ⌝ }
-    ensures { λ _. ⌜ now (t .exit) ≡ withRecord (now (t .entry)) i (recordOf low high r) ⌝ }
-{
-    let at = 8 * i;
-    t[at] = low;
-    t[at + 1] = high;
-    t[at + 2] = byte_of(r.x);
-    t[at + 3] = byte_of(r.y);
-    t[at + 4] = byte_of(r.w);
-    t[at + 5] = byte_of(r.h);
-    t[at + 6] = 0;
-    t[at + 7] = 0;
-}
-
 // The module r is put into slot i, which is free, with the id low + 256·high.
 pub fn put_in(w: usize, h: usize, s: &mut [i16], t: &mut [u8], i: usize, low: u8, high: u8, r: Rect)
     requires { ⌜ Placing w h (now s) (now t) i low high r ⌝ }
@@ -147,7 +114,7 @@ pub fn put_in(w: usize, h: usize, s: &mut [i16], t: &mut [u8], i: usize, low: u8
     ensures { λ _. ⌜ now (s .exit) ≡ fresh w h (now (t .exit)) ⌝ }
 {
     add(w, h, s, r.x, r.y, r.w, r.h);
-    put_record(t, i, low, high, r);
+    table::put_record(t, i, low, high, r);
 }
 
 // The module of slot i is taken out: "A free slot is eight zero bytes".
@@ -164,48 +131,5 @@ pub fn take_out(w: usize, h: usize, s: &mut [i16], t: &mut [u8], i: usize)
         w: 0,
         h: 0,
     };
-    put_record(t, i, 0, 0, none);
-}
-
-// Slot i is used and has this id. The id is looked at first: hardly any slot has it.
-fn has_id(t: &[u8], id: usize, i: usize) -> bool
-    requires { ⌜ 8 * i + 8 ≤ length (now t) ⌝ }
-    ensures { λ r. ⌜ r ≡ hasId (now (t .entry)) id i ⌝ }
-{
-    if table::id_at(t, i) != id {
-        return false;
-    }
-    !table::slot_free(t, i)
-}
-
-// The slot of the module with this id, and the number of slots where there is none.
-pub fn slot_of(t: &[u8], id: usize) -> usize
-    requires { ⌜ length (now t) ≡ 8 * slots (now t) ⌝ }
-    ensures { λ r. ⌜ r ≡ slotOf (now (t .entry)) id ⌝ }
-{
-    let n = t.len() / 8;
-    let mut i = 0;
-    while i < n {
-        if has_id(t, id, i) {
-            return i;
-        }
-        i += 1;
-    }
-    n
-}
-
-// "Place and pin use the lowest free slot": the number of slots where there is none.
-pub fn lowest_free(t: &[u8]) -> usize
-    requires { ⌜ length (now t) ≡ 8 * slots (now t) ⌝ }
-    ensures { λ r. ⌜ r ≡ lowestFree (now (t .entry)) ⌝ }
-{
-    let n = t.len() / 8;
-    let mut i = 0;
-    while i < n {
-        if table::slot_free(t, i) {
-            return i;
-        }
-        i += 1;
-    }
-    n
+    table::put_record(t, i, 0, 0, none);
 }

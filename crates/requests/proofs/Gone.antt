@@ -6,7 +6,7 @@
 --     all-run      where none is left, the run is what the contract says
 -- Assumes nothing.
 use mathlib.Core.Path.{_≡_, refl, _∙_, subst}
-use Prim.Native.Nat.{ℕ, _+_, _-_, _*_, _≤_, _<_, _^_}
+use Prim.Native.Nat.{ℕ, suc, _+_, _-_, _*_, _≤_, _<_, _^_}
 use native.Mathlib.Omega.{arith}
 use mathlib.Core.Bool.{Bool, not}
 use mathlib.Core.List.{List}
@@ -22,7 +22,7 @@ use Rattle.rules.specs.Surface.{Standing}
 use Rattle.rules.specs.Blocks.{started, requests, after}
 use Rattle.requests.specs.Steps.{Turn, ServedAt, Ran}
 use Rattle.requests.specs.declared.reader.Reader.{Reader}
-use Rattle.requests.proofs.Turns.{RanTo, ran-none, ran-more, ran-all}
+use Rattle.requests.proofs.Turns.{RanTo, ran-none, ran-suc, ran-all}
 use Rattle.requests.proofs.Lent.{Three, Long3}
 
 pub record Asked : Type 0 where
@@ -96,16 +96,16 @@ module _ (c : Asked) where
       -- one request more
       abbrev pub one-more : (x : ℕ × Three) → Answered x → Gone c
       one-more x f = record {
-        k = i .k + 1;
+        k = suc (i .k);
         z = x .1;
         n = i .n + x .0;
         upto = omega (arith, inside, sound .0);
-        ran = ran-more w h (now s) (now t) (now b) (now a) (i .k) (i .z .0) (i .z .1 .0) (i .z .1 .1 .0) (x .1 .0) (x .1 .1 .0) (x .1 .1 .1 .0) (i .n) (x .0) (i .ran) (f .1) (f .0 .1);
+        ran = ran-suc w h (now s) (now t) (now b) (now a) (i .k) (i .z .0) (i .z .1 .0) (i .z .1 .1 .0) (x .1 .0) (x .1 .1 .0) (x .1 .1 .1 .0) (i .n) (x .0) (i .ran) (f .1);
         long = (f .0 .0 ∙ i .long .0, f .0 .1 ∙ i .long .1, f .0 .2 ∙ i .long .2);
       }
 
       pub more-fits : (x : ℕ × Three) → Answered x → i .n + x .0 < 2 ^ 64
       more-fits x f = omega (arith, one-more x f .upto, one-more x f .ran .few, sound .1)
 
-      pub nearer : (j : Gone c) → j .k ≡ i .k + 1 → Upto j i
+      pub nearer : (j : Gone c) → j .k ≡ suc (i .k) → Upto j i
       nearer j e = omega (arith, inside, sound .0, e)

@@ -1,30 +1,16 @@
--- The code of a list of lines, line by line; sums of bytes. Assumes nothing.
+-- Tests and sums of bytes: the bytes that must be zero. Assumes nothing.
 use mathlib.Core.Path.{_≡_, refl, sym, ap, _∙_}
-use mathlib.Core.Bool.{Bool, true, false, not, cond, _&&_, _||_}
+use mathlib.Core.Bool.{Bool, true, false, not, _&&_, _||_, and-true, and-false}
 use mathlib.Core.Logic.{⊎-elim}
 use mathlib.Core.List.{List, [], _∷_}
 use Prim.Native.Nat.{ℕ, zero, suc, _+_}
 use native.Mathlib.Omega.{arith}
 use borrow.Author.Tests.{ne-eqb, ltb-true, ltb-false, lt-leb, le-leb}
 use lib.Dec.{leb, ltb, eqb}
-use Rattle.rules.specs.Judging.{Line, _when_, first}
 use Rattle.rules.specs.Tests.{all}
 use Rattle.rules.specs.Requests.{isRemove, isPin, byRule, ruleOf, wide, high, byte6, byte7, zeros}
 use Rattle.rules.proofs.Tests.{decide}
 use Rattle.requests.specs.Steps.{stray}
-
--- a line that applies gives its code; one that does not leaves it to the next
-pub first-here : (c : ℕ) (b : Bool) (ls : List Line) → b ≡ true → c ≡ first (c when b ∷ ls)
-unfolding first
-first-here c b ls e = sym (ap (λ d. cond d c (first ls)) e)
-
-pub first-past : (c : ℕ) (b : Bool) (ls : List Line) (n : ℕ) → b ≡ false → n ≡ first ls → n ≡ first (c when b ∷ ls)
-unfolding first
-first-past c b ls n e r = r ∙ sym (ap (λ d. cond d c (first ls)) e)
-
-pub first-end : 0 ≡ first []
-unfolding first
-first-end = refl
 
 -- ---- Bools
 
@@ -44,16 +30,8 @@ over a n = ⊎-elim (λ (e : ltb a n ≡ true). e ∙ sym (ap not (lt-leb n a (l
 
 -- one byte more is zero too exactly when the sum still is
 sum-more : (a n : ℕ) → (eqb n 0 && eqb 0 a) ≡ eqb (a + n) 0
-sum-more zero n = go (eqb n 0) ∙ ap (λ m. eqb m 0) (let e : n ≡ 0 + n = omega arith in e)
-  where
-    go : (b : Bool) → (b && true) ≡ b
-    go true = refl
-    go false = refl
-sum-more (suc a) n = go (eqb n 0) ∙ sym (ne-eqb (suc a + n) 0 (λ z. omega arith))
-  where
-    go : (b : Bool) → (b && eqb 0 (suc a)) ≡ false
-    go true = ne-eqb 0 (suc a) (λ z. omega arith)
-    go false = refl
+sum-more zero n = and-true (eqb n 0) ∙ ap (λ m. eqb m 0) (let e : n ≡ 0 + n = omega arith in e)
+sum-more (suc a) n = ap (λ b. eqb n 0 && b) (ne-eqb 0 (suc a) (λ z. omega arith)) ∙ and-false (eqb n 0) ∙ sym (ne-eqb (suc a + n) 0 (λ z. omega arith))
 
 abbrev sum : List ℕ → ℕ
 sum [] = 0

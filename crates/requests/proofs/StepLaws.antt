@@ -1,256 +1,90 @@
 -- WHAT A REQUEST COMES TO, case by case: the step that the rules define, from the tests that the code makes. Assumes nothing.
-use mathlib.Core.Path.{_≡_, refl, sym, ap, ap₂, _∙_, subst}
-use mathlib.Core.Bool.{Bool, true, false, not, cond, _&&_}
-use mathlib.Core.List.{List}
-use mathlib.Core.Option.{Option, none, some}
-use Prim.Native.Nat.{ℕ, _+_, _*_, _≤_, _<_}
+use mathlib.Core.Path.{_≡_, refl, sym, ap, _∙_}
+use mathlib.Core.Bool.{Bool, true, false, not, cond}
+use mathlib.Core.List.{List, [], _∷_}
+use mathlib.Core.Option.{Option, none, some, Option·none-ne-some}
+use Prim.Native.Nat.{ℕ, _+_, _*_, _≤_}
 use native.Mathlib.Nat.{mul-le-mul-right, mul-comm}
 use native.Mathlib.Omega.{arith}
-use borrow.Author.Tests.{ltb-false, lt-ltb, le-ltb}
-use lib.Dec.{ltb, eqb}
+use borrow.Author.Tests.{ltb-false}
+use lib.Dec.{ltb}
 use lib.IntN.{ℤ}
 use lib.ListN.{length}
-use Rattle.rules.specs.Surface.{Standing, slots, rectOf, occupied, fresh}
+use Rattle.rules.specs.Surface.{Standing, rectOf, occupied, fresh}
 use Rattle.rules.specs.Empties.{cellsEmpty}
-use Rattle.rules.specs.Judging.{first}
-use Rattle.rules.specs.Requests.{operation, ruleOf, wide, high, idAsked, isPlace, isRemove, isPin, isExchange, byRule, makesNew, needsOld, hasSize, pinned, slotOf, someFree, lowestFree, ground, position, rulePlace, anyCellTaken, orNone, soundLines, placeLines, judging, acceptedStep, stepOf}
+use Rattle.rules.specs.Judging.{_when_, first}
+use Rattle.rules.specs.Requests.{operation, ruleOf, wide, high, idAsked, isExchange, pinned, slotOf, someFree, lowestFree, ground, position, rulePlace, anyCellTaken, orNone, judgedTo, stepOf}
 use Rattle.rules.specs.declared.Rect.{Rect}
 use Rattle.rules.specs.declared.Step.{Step}
 use Rattle.rules.specs.declared.Step.the-variants.{Refused, Done}
-use Rattle.rules.proofs.Tests.{or-left, or-right, or-neither, fails}
-use Rattle.meaning.proofs.Lowest.{rising, first-stop, first-over}
+use Rattle.rules.proofs.Tests.{or-neither, fails}
 use Rattle.meaning.proofs.Choice.{rule-finds}
-use Rattle.modules.specs.Walk.{On}
-use Rattle.modules.specs.Change.{Taking}
-use Rattle.modules.proofs.Search.{lowest-some}
-use Rattle.modules.proofs.Stand.{standing-fresh}
-use Rattle.modules.proofs.Cases.{asking, then-false, sizes, Asked, asked, taking, step-for}
-use Rattle.modules.proofs.Cases.Asked.{place, remove, pin, exchange}
-use Rattle.modules.proofs.Cases as Cases
-use Rattle.choice.specs.Best.{choiceOf}
+use Rattle.meaning.specs.Change.{On}
+use Rattle.meaning.proofs.Stands.{standing-fresh}
+use Rattle.meaning.proofs.Steps.{ground-for}
+use Rattle.meaning.proofs.Operations.{place-by, exchange-by, by-sized, size-some, ground-same, judgedFor, step-by}
+use Rattle.choice.specs.Best.{codeOf, valuesOf, codeFor, Chosen}
 use Rattle.choice.specs.declared.Choice.{Choice}
 use Rattle.choice.specs.declared.Choice.the-variants.{At, Nowhere}
 use Rattle.requests.specs.Steps.{past, ruleStep, Passes, tableLeft, weightsLeft, Judged}
-use Rattle.requests.proofs.Lines.{first-here, first-past, first-end, and-no, and-is, or-is}
 
--- ---- what the seven tests tell
+-- ---- pin
 
-module _ (t q : List ℕ) (e : Passes t q) where
-  pub rule-le : byRule q ≡ true → ruleOf q ≤ 2
-  rule-le p = ltb-false 2 (ruleOf q) (then-false (byRule q) _ p (asking t q e .rule))
+module _ (W H : ℕ) (t q : List ℕ) (s : Passes t q) (e : operation q ≡ 3) where
+  pin-is : stepOf W H t q ≡ judgedFor W H t q t 3
+  pin-is = step-by W H t q s t (ground-for t q 3 e) 3 e
 
-  pub size-some : hasSize q ≡ true → (1 ≤ wide q) × (1 ≤ high q)
-  size-some = sizes t q (asking t q e)
+  -- the three tests in their order. Those behind one that refuses may come to anything
+  pub pin-tested : (p f b : Bool) → past W H (pinned q) ≡ p → someFree t ≡ f → cellsEmpty (occupied t) (pinned q) ≡ b →
+      cond p (Refused 18) (cond f (cond b (Done (lowestFree t) (pinned q)) (Refused 21)) (Refused 19)) ≡ stepOf W H t q
+  unfolding first
+  pin-tested true f b x y z = sym (pin-is ∙ rw x)
+  pin-tested false false b x y z = sym (pin-is ∙ rw (x, y))
+  pin-tested false true true x y z = sym (pin-is ∙ rw (x, y, z))
+  pin-tested false true false x y z = sym (pin-is ∙ rw (x, y, z))
 
-  -- the fourth operation is the last
-  pub last-op : (operation q ≡ 1 → ⊥) → (operation q ≡ 2 → ⊥) → (operation q ≡ 3 → ⊥) → operation q ≡ 4
-  last-op a b c = go (asked q (asking t q e .op))
-    where
-      go : Asked q → operation q ≡ 4
-      go (place p) = absurd (a p)
-      go (remove p) = absurd (b p)
-      go (pin p) = absurd (c p)
-      go (exchange p) = p
+-- ---- remove
 
--- ---- which operation is which
+pub remove-step : (W H : ℕ) (t q : List ℕ) → Passes t q → operation q ≡ 2 → Done (slotOf t (idAsked q)) (rectOf t (slotOf t (idAsked q))) ≡ stepOf W H t q
+unfolding first
+remove-step W H t q s e = sym (step-by W H t q s (ground t q) refl 2 e)
 
-module _ (q : List ℕ) where
-  -- a byte is one number
-  pub is : (k : ℕ) → operation q ≡ k → (j : ℕ) → eqb (operation q) j ≡ eqb k j
-  is k e j = ap (λ n. eqb n j) e
+-- ---- by rule
 
-  pub place-by : operation q ≡ 1 → byRule q ≡ true
-  place-by e = or-left (isPlace q) (isExchange q) (is 1 e 1)
+-- A MODULE BY RULE COMES TO WHAT THE RULE'S CHOICE COMES TO: 20 and 22 are the choice's
+rule-step : (occ : ℕ → ℕ → Bool) (W H rule w h i : ℕ) → 1 ≤ w → 1 ≤ h →
+    let o = rulePlace occ W H rule w h in
+    ruleStep occ i o ≡ judgedTo (first (20 when not (position occ W H w h) ∷ 22 when anyCellTaken occ o ∷ [])) (Done i (orNone o))
+unfolding first ruleStep
+rule-step occ W H rule w h i a b = go (rulePlace occ W H rule w h) refl
+  where
+    tested : (p : Rect) (b : Bool) → cellsEmpty occ p ≡ b → position occ W H w h ≡ true → cond (cellsEmpty occ p) (Done i p) (Refused 22) ≡ judgedTo (cond (not (position occ W H w h)) 20 (cond (not (cellsEmpty occ p)) 22 0)) (Done i p)
+    tested p true c f = rw (c, f)
+    tested p false c f = rw (c, f)
 
-  pub exchange-by : operation q ≡ 4 → byRule q ≡ true
-  exchange-by e = or-right (isPlace q) (isExchange q) (is 4 e 4)
+    go : (o : Option Rect) → rulePlace occ W H rule w h ≡ o → ruleStep occ i o ≡ judgedTo (cond (not (position occ W H w h)) 20 (cond (anyCellTaken occ o) 22 0)) (Done i (orNone o))
+    go none e = rw (fails (position occ W H w h) (λ p. let r = rule-finds occ W H rule w h a b .1 p in Option·none-ne-some (r .0) (sym e ∙ r .1)))
+    go (some p) e = tested p (cellsEmpty occ p) refl (rule-finds occ W H rule w h a b .0 (p, e))
 
-  pub by-sized : byRule q ≡ true → hasSize q ≡ true
-  by-sized e = or-left (byRule q) (isPin q) e
+module _ (W H : ℕ) (t q : List ℕ) (s : Passes t q) where
+  pub place-full : operation q ≡ 1 → someFree t ≡ false → Refused 19 ≡ stepOf W H t q
+  unfolding first
+  place-full e f = sym (step-by W H t q s t (ground-for t q 1 e) 1 e ∙ rw f)
 
-  pub pin-sized : operation q ≡ 3 → hasSize q ≡ true
-  pin-sized e = or-right (byRule q) (isPin q) (is 3 e 3)
-
-  pub place-new : operation q ≡ 1 → makesNew q ≡ true
-  place-new e = or-left (isPlace q) (isPin q) (is 1 e 1)
-
-  pub pin-new : operation q ≡ 3 → makesNew q ≡ true
-  pin-new e = or-right (isPlace q) (isPin q) (is 3 e 3)
-
-  pub remove-old : operation q ≡ 2 → needsOld q ≡ true
-  remove-old e = or-left (isRemove q) (isExchange q) (is 2 e 2)
-
-  pub exchange-old : operation q ≡ 4 → needsOld q ≡ true
-  exchange-old e = or-right (isRemove q) (isExchange q) (is 4 e 4)
-
--- ---- the step from the code
-
-module _ (W H : ℕ) (t q : List ℕ) where
-  by-code : (c : ℕ) → first (judging W H t q) ≡ c → (c ≡ 0 → ⊥) → Refused c ≡ stepOf W H t q
-  by-code c e n = ap Refused (sym e) ∙ sym (Cases.step-refused W H t q (λ z. n (sym e ∙ z)))
-
-  pub step-unsound : (c : ℕ) → c ≡ first (soundLines t q) → (c ≡ 0 → ⊥) → Refused c ≡ stepOf W H t q
-  step-unsound c e n = by-code c (first-stop (soundLines t q) (placeLines W H t q) (λ z. n (e ∙ z)) ∙ sym e) n
-
-  over : Passes t q → first (judging W H t q) ≡ first (placeLines W H t q)
-  over e = first-over 10 (soundLines t q) (placeLines W H t q) (unfold soundLines rising in refl) e
-
-  step-refused : (c : ℕ) → Passes t q → c ≡ first (placeLines W H t q) → (c ≡ 0 → ⊥) → Refused c ≡ stepOf W H t q
-  step-refused c s e n = by-code c (over s ∙ sym e) n
-
-  step-done : (d : Step) → Passes t q → 0 ≡ first (placeLines W H t q) → d ≡ acceptedStep W H t q → d ≡ stepOf W H t q
-  step-done d s e a = a ∙ sym (Cases.step-accepted W H t q (over s ∙ sym e))
-
-  pub ground-same : isExchange q ≡ false → ground t q ≡ t
-  unfolding ground
-  ground-same e = rw e
-
-  -- remove
-  pub remove-step : Passes t q → operation q ≡ 2 → Done (slotOf t (idAsked q)) (rectOf t (slotOf t (idAsked q))) ≡ stepOf W H t q
-  unfolding placeLines acceptedStep
-  remove-step s e =
-      step-done _ s
-      (first-past 18 _ _ 0 (and-no _ _ (is q 2 e 3))
-      (first-past 19 _ _ 0 (and-no _ _ (or-is _ _ _ (is q 2 e 1) (is q 2 e 3)))
-      (first-past 20 _ _ 0 (and-no _ _ (or-is _ _ _ (is q 2 e 1) (is q 2 e 4)))
-      (first-past 21 _ _ 0 (and-no _ _ (is q 2 e 3))
-      (first-past 22 _ _ 0 (and-no _ _ (or-is _ _ _ (is q 2 e 1) (is q 2 e 4))) first-end)))))
-      (sym (step-for W H t q 2 e))
-
-  -- pin
-  module _ (s : Passes t q) (e : operation q ≡ 3) where
-    pub pin-past : past W H (pinned q) ≡ true → Refused 18 ≡ stepOf W H t q
-    unfolding placeLines
-    pin-past p = step-refused 18 s (first-here 18 _ _ (and-is _ _ _ (is q 3 e 3) p)) (λ z. omega arith)
-
-    pub pin-full : past W H (pinned q) ≡ false → someFree t ≡ false → Refused 19 ≡ stepOf W H t q
-    unfolding placeLines
-    pin-full p f =
-        step-refused 19 s
-        (first-past 18 _ _ 19 (and-is _ _ _ (is q 3 e 3) p)
-        (first-here 19 _ _ (and-is _ _ _ (pin-new q e) (ap not f))))
-        (λ z. omega arith)
-
-    -- the cells are those of the table as it is
-    pin-ground : (b : Bool) → cellsEmpty (occupied t) (pinned q) ≡ b → not (cellsEmpty (occupied (ground t q)) (pinned q)) ≡ not b
-    pin-ground b g = ap (λ u. not (cellsEmpty (occupied u) (pinned q))) (ground-same (is q 3 e 4)) ∙ ap not g
-
-    pub pin-taken : past W H (pinned q) ≡ false → someFree t ≡ true → cellsEmpty (occupied t) (pinned q) ≡ false → Refused 21 ≡ stepOf W H t q
-    unfolding placeLines
-    pin-taken p f g =
-        step-refused 21 s
-        (first-past 18 _ _ 21 (and-is _ _ _ (is q 3 e 3) p)
-        (first-past 19 _ _ 21 (and-is _ _ _ (pin-new q e) (ap not f))
-        (first-past 20 _ _ 21 (and-no _ _ (or-is _ _ _ (is q 3 e 1) (is q 3 e 4)))
-        (first-here 21 _ _ (and-is _ _ _ (is q 3 e 3) (pin-ground false g))))))
-        (λ z. omega arith)
-
-    pub pin-done : past W H (pinned q) ≡ false → someFree t ≡ true → cellsEmpty (occupied t) (pinned q) ≡ true → Done (lowestFree t) (pinned q) ≡ stepOf W H t q
-    unfolding placeLines acceptedStep
-    pin-done p f g =
-        step-done _ s
-        (first-past 18 _ _ 0 (and-is _ _ _ (is q 3 e 3) p)
-        (first-past 19 _ _ 0 (and-is _ _ _ (pin-new q e) (ap not f))
-        (first-past 20 _ _ 0 (and-no _ _ (or-is _ _ _ (is q 3 e 1) (is q 3 e 4)))
-        (first-past 21 _ _ 0 (and-is _ _ _ (is q 3 e 3) (pin-ground true g))
-        (first-past 22 _ _ 0 (and-no _ _ (or-is _ _ _ (is q 3 e 1) (is q 3 e 4))) first-end)))))
-        (sym (step-for W H t q 3 e))
-
-  -- by rule: the table on which the place is judged, and the place
-  abbrev taken : ℕ → ℕ → Bool
-  taken = occupied (ground t q)
-
-  abbrev chosen : Option Rect
-  chosen = rulePlace taken W H (ruleOf q) (wide q) (high q)
-
-  module _ (s : Passes t q) (r : byRule q ≡ true) (n : isPin q ≡ false) (i : ℕ) (f : (makesNew q && not (someFree t)) ≡ false) where
-    size : (1 ≤ wide q) × (1 ≤ high q)
-    size = size-some t q s (by-sized q r)
-
-    no-place : chosen ≡ none → Refused 20 ≡ stepOf W H t q
-    unfolding placeLines
-    no-place e =
-        step-refused 20 s
-        (first-past 18 _ _ 20 (and-no _ _ n)
-        (first-past 19 _ _ 20 f
-        (first-here 20 _ _ (and-is _ _ _ r (ap not (fails (position taken W H (wide q) (high q)) (λ p.
-        let w = rule-finds taken W H (ruleOf q) (wide q) (high q) (size .0) (size .1) .1 p in
-        let z : _≡_ {A = ℕ} 0 1 = none-some _ e (w .1) in omega arith)))))))
-        (λ z. omega arith)
-      where
-        none-some : (a : Rect) → chosen ≡ none → chosen ≡ some a → _≡_ {A = ℕ} 0 1
-        none-some a x y = cc
-
-    a-place : (p : Rect) → chosen ≡ some p → acceptedStep W H t q ≡ Done i (orNone chosen) → (b : Bool) → cellsEmpty taken p ≡ b → cond b (Done i p) (Refused 22) ≡ stepOf W H t q
-    unfolding placeLines
-    a-place p e a b c =
-        let found : (byRule q && not (position taken W H (wide q) (high q))) ≡ false = and-is _ _ _ r (ap not (rule-finds taken W H (ruleOf q) (wide q) (high q) (size .0) (size .1) .0 (p, e))) in
-        by b c found
-      where
-        by : (b : Bool) → cellsEmpty taken p ≡ b → (byRule q && not (position taken W H (wide q) (high q))) ≡ false → cond b (Done i p) (Refused 22) ≡ stepOf W H t q
-        by true c found =
-            step-done (Done i p) s
-            (first-past 18 _ _ 0 (and-no _ _ n)
-            (first-past 19 _ _ 0 f
-            (first-past 20 _ _ 0 found
-            (first-past 21 _ _ 0 (and-no _ _ n)
-            (first-past 22 _ _ 0 (and-is _ _ _ r (ap (anyCellTaken taken) e ∙ ap not c)) first-end)))))
-            (ap (λ o. Done i (orNone o)) (sym e) ∙ sym a)
-        by false c found =
-            step-refused 22 s
-            (first-past 18 _ _ 22 (and-no _ _ n)
-            (first-past 19 _ _ 22 f
-            (first-past 20 _ _ 22 found
-            (first-past 21 _ _ 22 (and-no _ _ n)
-            (first-here 22 _ _ (and-is _ _ _ r (ap (anyCellTaken taken) e ∙ ap not c)))))))
-            (λ z. omega arith)
-
-    -- A MODULE BY RULE COMES TO WHAT THE RULE'S CHOICE COMES TO
-    pub rule-step : acceptedStep W H t q ≡ Done i (orNone chosen) → ruleStep taken i chosen ≡ stepOf W H t q
-    unfolding ruleStep
-    rule-step a = go chosen refl
-      where
-        go : (o : Option Rect) → chosen ≡ o → ruleStep taken i o ≡ stepOf W H t q
-        go none e = no-place e
-        go (some p) e = a-place p e a (cellsEmpty taken p) refl
-
-  -- place
-  pub place-full : Passes t q → operation q ≡ 1 → someFree t ≡ false → Refused 19 ≡ stepOf W H t q
-  unfolding placeLines
-  place-full s e f =
-      step-refused 19 s
-      (first-past 18 _ _ 19 (and-no _ _ (is q 1 e 3))
-      (first-here 19 _ _ (and-is _ _ _ (place-new q e) (ap not f))))
-      (λ z. omega arith)
-
-  pub place-rule : Passes t q → operation q ≡ 1 → someFree t ≡ true → (i : ℕ) → i ≡ lowestFree t → (d : Step) →
+  pub place-rule : operation q ≡ 1 → someFree t ≡ true → (i : ℕ) → i ≡ lowestFree t → (d : Step) →
       d ≡ ruleStep (occupied t) i (rulePlace (occupied t) W H (ruleOf q) (wide q) (high q)) → d ≡ stepOf W H t q
-  place-rule s e f i ei d h =
-      h
-      ∙ ap₂ (λ u j. ruleStep (occupied u) j (rulePlace (occupied u) W H (ruleOf q) (wide q) (high q))) (sym (ground-same (is q 1 e 4))) ei
-      ∙ rule-step s (place-by q e) (is q 1 e 3) (lowestFree t) (and-is _ _ _ (place-new q e) (ap not f)) (step-for W H t q 1 e)
+  unfolding first
+  place-rule e f i j d k =
+      let z = size-some t q s (by-sized q (place-by q e)) in
+      k ∙ rule-step (occupied t) W H (ruleOf q) (wide q) (high q) i (z .0) (z .1) ∙ sym (step-by W H t q s t (ground-for t q 1 e) 1 e ∙ rw (f, sym j))
 
-  -- exchange: t′ is the table without the old module
-  pub exchange-rule : Passes t q → operation q ≡ 4 → (i : ℕ) → i ≡ slotOf t (idAsked q) → (t′ : List ℕ) → t′ ≡ ground t q → (d : Step) →
-      d ≡ ruleStep (occupied t′) i (rulePlace (occupied t′) W H (ruleOf q) (wide q) (high q)) → d ≡ stepOf W H t q
-  exchange-rule s e i ei t′ et d h =
-      h
-      ∙ ap₂ (λ u j. ruleStep (occupied u) j (rulePlace (occupied u) W H (ruleOf q) (wide q) (high q))) et ei
-      ∙ rule-step s (exchange-by q e) (is q 4 e 3) (slotOf t (idAsked q)) (and-no _ _ (or-is _ _ _ (is q 4 e 1) (is q 4 e 3))) (step-for W H t q 4 e)
-
--- ---- slots
-
-module _ (t : List ℕ) (i : ℕ) (e : i ≡ lowestFree t) where
-  pub none-free : slots t ≤ i → someFree t ≡ false
-  none-free h = sym (lowest-some t) ∙ le-ltb (lowestFree t) (slots t) (omega (arith, e))
-
-  pub one-free : i < slots t → someFree t ≡ true
-  one-free h = sym (lowest-some t) ∙ lt-ltb (lowestFree t) (slots t) (omega (arith, e))
-
-module _ (W H : ℕ) (s : List ℤ) (t q : List ℕ) (d : Standing W H s t) (n : Passes t q) where
-  -- the slot of the old module has it
-  pub old-taking : needsOld q ≡ true → (i : ℕ) → i ≡ slotOf t (idAsked q) → Taking W H s t i
-  old-taking o i e = subst (Taking W H s t) (sym e) (taking W H s t q d (asking t q n) o .0)
+  -- exchange: g is the table without the old module
+  pub exchange-rule : operation q ≡ 4 → (i : ℕ) → i ≡ slotOf t (idAsked q) → (g : List ℕ) → g ≡ ground t q → (d : Step) →
+      d ≡ ruleStep (occupied g) i (rulePlace (occupied g) W H (ruleOf q) (wide q) (high q)) → d ≡ stepOf W H t q
+  unfolding first
+  exchange-rule e i j g f d k =
+      let z = size-some t q s (by-sized q (exchange-by q e)) in
+      k ∙ rule-step (occupied g) W H (ruleOf q) (wide q) (high q) i (z .0) (z .1) ∙ sym (step-by W H t q s g (sym f) 4 e ∙ rw (sym j))
 
 -- ---- the test of a place
 
@@ -266,24 +100,23 @@ past-on W H r e a b =
 
 -- ---- the choice taken apart
 
-pub chose-same : (occ : ℕ → ℕ → Bool) (W H : ℕ) (c : Choice) (a b d a′ b′ d′ : ℕ) → c ≡ choiceOf (rulePlace occ W H a b d) → a ≡ a′ → b ≡ b′ → d ≡ d′ → c ≡ choiceOf (rulePlace occ W H a′ b′ d′)
-chose-same occ W H c a b d a′ b′ d′ e p q r =
-    e ∙ ap (λ n. choiceOf (rulePlace occ W H n b d)) p ∙ ap (λ n. choiceOf (rulePlace occ W H a′ n d)) q ∙ ap (λ n. choiceOf (rulePlace occ W H a′ b′ n)) r
+pub chose-same : (occ : ℕ → ℕ → Bool) (W H : ℕ) (c : Choice) (a b d a′ b′ d′ : ℕ) → Chosen (rulePlace occ W H a b d) c → a ≡ a′ → b ≡ b′ → d ≡ d′ → Chosen (rulePlace occ W H a′ b′ d′) c
+chose-same occ W H c a b d a′ b′ d′ e p q r = rw (← p, ← q, ← r) e
 
-module _ (o : Option Rect) (c : Choice) (e : c ≡ choiceOf o) where
+module _ (o : Option Rect) (c : Choice) (e : Chosen o c) where
   pub chose-none : c ≡ Nowhere → o ≡ none
-  chose-none p = go o (sym p ∙ e)
+  chose-none p = go o (sym (ap codeOf p) ∙ e .code)
     where
-      go : (o : Option Rect) → Nowhere ≡ choiceOf o → o ≡ none
+      go : (o : Option Rect) → 20 ≡ codeFor o → o ≡ none
       go none z = refl
-      go (some a) z = absurd (let y : _≡_ {A = ℕ} 0 1 = cc in omega arith)
+      go (some a) z = absurd (omega arith)
 
   pub chose-some : (r : Rect) → c ≡ At r → o ≡ some r
-  chose-some r p = go o (sym p ∙ e)
+  chose-some r p = go o (sym (ap codeOf p) ∙ e .code) (sym (ap valuesOf p) ∙ e .values)
     where
-      go : (o : Option Rect) → At r ≡ choiceOf o → o ≡ some r
-      go none z = absurd (let y : _≡_ {A = ℕ} 0 1 = cc in omega arith)
-      go (some a) z = let y : a ≡ r = cc in ap some y
+      go : (o : Option Rect) → 0 ≡ codeFor o → r ≡ orNone o → o ≡ some r
+      go none z q = absurd (omega arith)
+      go (some a) z q = ap some (sym q)
 
 module _ (occ : ℕ → ℕ → Bool) (i : ℕ) (o : Option Rect) where
   pub rule-none : o ≡ none → Refused 20 ≡ ruleStep occ i o
@@ -297,17 +130,13 @@ module _ (occ : ℕ → ℕ → Bool) (i : ℕ) (o : Option Rect) where
 -- ---- what judging leaves
 
 module _ (W H : ℕ) (q : List ℕ) (s : List ℤ) (t : List ℕ) (d : Step) (e : d ≡ stepOf W H t q) where
-  pub judged-refused : (s′ : List ℤ) (t′ : List ℕ) (c : ℕ) → d ≡ Refused c → s′ ≡ s → t′ ≡ t → Judged W H q s t s′ t′ d
-  judged-refused s′ t′ c ed es et = record { step = e; weights = es ∙ sym (ap (λ k. weightsLeft W H q k t s) ed); table = et ∙ sym (ap (λ k. tableLeft q k t) ed) }
-
-  pub judged-done : (s′ : List ℤ) (t′ : List ℕ) (i : ℕ) (r : Rect) → d ≡ Done i r → s′ ≡ fresh W H t′ → t′ ≡ ground t q → Judged W H q s t s′ t′ d
-  judged-done s′ t′ i r ed es et =
-      record { step = e; weights = es ∙ ap (fresh W H) et ∙ sym (ap (λ k. weightsLeft W H q k t s) ed); table = et ∙ sym (ap (λ k. tableLeft q k t) ed) }
+  pub judged-by : (s′ : List ℤ) (t′ : List ℕ) (k : Step) → d ≡ k → s′ ≡ weightsLeft W H q k t s → t′ ≡ tableLeft q k t → Judged W H q s t s′ t′ d
+  judged-by s′ t′ k ed es et = record { step = e; weights = es ∙ sym (ap (λ k. weightsLeft W H q k t s) ed); table = et ∙ sym (ap (λ k. tableLeft q k t) ed) }
 
   -- all but an exchange are judged on the surface as it is
   pub judged-same : Standing W H s t → isExchange q ≡ false → Judged W H q s t s t d
   judged-same n x = go d refl
     where
       go : (k : Step) → d ≡ k → Judged W H q s t s t d
-      go (Refused c) p = judged-refused s t c p refl refl
-      go (Done i r) p = judged-done s t i r p (standing-fresh W H s t n) (sym (ground-same W H t q x))
+      go (Refused c) p = judged-by s t (Refused c) p refl refl
+      go (Done i r) p = let g = sym (ground-same t q x) in judged-by s t (Done i r) p (standing-fresh W H s t n ∙ ap (fresh W H) g) g

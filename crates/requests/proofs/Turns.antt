@@ -1,16 +1,15 @@
 -- The requests of a block in turn: the state after the first k is what the code has. Assumes nothing.
-use mathlib.Core.Path.{_≡_, refl, sym, ap, ap₂, _∙_, subst, subst⁻¹}
+use mathlib.Core.Path.{_≡_, refl, sym, ap, ap₂, _∙_, subst}
 use mathlib.Core.List.{List, _++_, append-nil}
 use Prim.Native.Nat.{ℕ, zero, suc, _+_, _-_, _*_, _≤_}
-use native.Mathlib.Numerals.{add-one}
 use native.Mathlib.Omega.{arith}
 use lib.IntN.{ℤ}
-use lib.ListN.{length, take, drop, drop-of-length-le, length-append, length-drop}
+use lib.ListN.{length, take, drop, drop-of-length-le, length-append}
 use borrow.Rule.Slice.PartMut.{putMid, post-is}
 use Rattle.cells.proofs.Parts.{put-part}
 use Rattle.rules.specs.Surface.{Standing}
 use Rattle.rules.specs.Requests.{stepOf, answerOf, tableAfter, weightsAfter, acceptedOne}
-use Rattle.rules.specs.Blocks.{State, started, next, request, after}
+use Rattle.rules.specs.Blocks.{State, started, request, after, afterBy, nextBy}
 use Rattle.rules.specs.declared.Step.{Step}
 use Rattle.rules.specs.declared.Step.the-variants.{Refused, Done}
 use Rattle.requests.specs.Steps.{Served, bytesAt, ServedAt, Ran}
@@ -24,7 +23,6 @@ pub record RanTo (W H : ℕ) (s₀ : List ℤ) (t₀ b a₀ : List ℕ) (k : ℕ
   pub answers : a ≡ after W H b (started s₀ t₀) k .answers ++ drop (8 * k) a₀
   pub accepted : n ≡ after W H b (started s₀ t₀) k .accepted
   pub few : n ≤ k
-  pub same : length t ≡ length t₀
 
 one-most : (d : Step) → acceptedOne d ≤ 1
 one-most (Refused c) = omega arith
@@ -43,25 +41,19 @@ module _ (W H : ℕ) (s₀ : List ℤ) (t₀ b a₀ : List ℕ) where
   state k = after W H b (started s₀ t₀) k
 
   pub ran-none : Standing W H s₀ t₀ → RanTo W H s₀ t₀ b a₀ 0 s₀ t₀ a₀ 0
-  unfolding after
-  ran-none d = record { stands = d; weights = refl; table = refl; answers = refl; accepted = refl; few = omega arith; same = refl }
+  unfolding afterBy
+  ran-none d = record { stands = d; weights = refl; table = refl; answers = refl; accepted = refl; few = omega arith }
 
   pub answers-long : (k : ℕ) → length (state k .answers) ≡ 8 * k
-  unfolding after next
+  unfolding afterBy nextBy
   answers-long zero = refl
   answers-long (suc k) = simp (length-append, answers-long k) (omega arith)
 
-  -- no more are accepted than there are
-  pub after-few : (k : ℕ) → state k .accepted ≤ k
-  unfolding after next
-  after-few zero = omega arith
-  after-few (suc k) = omega (arith, after-few k, one-most (stepOf W H (state k .table) (request b k)))
-
-  -- one request more, as the definition counts
-  ran-suc : (k : ℕ) (s : List ℤ) (t a : List ℕ) (s′ : List ℤ) (t′ a′ : List ℕ) (n m : ℕ) → RanTo W H s₀ t₀ b a₀ k s t a n → ServedAt W H b (8 * k) s t a s′ t′ a′ m → length t′ ≡ length t →
+  -- one request more
+  pub ran-suc : (k : ℕ) (s : List ℤ) (t a : List ℕ) (s′ : List ℤ) (t′ a′ : List ℕ) (n m : ℕ) → RanTo W H s₀ t₀ b a₀ k s t a n → ServedAt W H b (8 * k) s t a s′ t′ a′ m →
       RanTo W H s₀ t₀ b a₀ (suc k) s′ t′ a′ (n + m)
-  unfolding after next
-  ran-suc k s t a s′ t′ a′ n m r v l =
+  unfolding afterBy nextBy
+  ran-suc k s t a s′ t′ a′ n m r v =
       let q = request b k in
       let p = answerOf q (stepOf W H t q) in
       let X = state k .answers in
@@ -76,16 +68,7 @@ module _ (W H : ℕ) (s₀ : List ℤ) (t₀ b a₀ : List ℕ) where
             ∙ ap₂ (λ y j. (X ++ answerOf q (stepOf W H y q)) ++ drop j a₀) (r .table) e8;
         accepted = ap₂ _+_ (r .accepted) (v .accepted ∙ ap (λ y. acceptedOne (stepOf W H y q)) (r .table));
         few = omega (arith, r .few, v .accepted, one-most (stepOf W H t q));
-        same = l ∙ r .same;
       }
-
-  pub ran-more : (k : ℕ) (s : List ℤ) (t a : List ℕ) (s′ : List ℤ) (t′ a′ : List ℕ) (n m : ℕ) → RanTo W H s₀ t₀ b a₀ k s t a n → ServedAt W H b (8 * k) s t a s′ t′ a′ m → length t′ ≡ length t →
-      RanTo W H s₀ t₀ b a₀ (k + 1) s′ t′ a′ (n + m)
-  ran-more k s t a s′ t′ a′ n m r v l = subst⁻¹ (λ j. RanTo W H s₀ t₀ b a₀ j s′ t′ a′ (n + m)) (add-one k) (ran-suc k s t a s′ t′ a′ n m r v l)
-
-  -- the answers keep their length
-  pub ran-long : (k n : ℕ) (s : List ℤ) (t a : List ℕ) (m : ℕ) → k ≤ n → length a₀ ≡ 8 * n → RanTo W H s₀ t₀ b a₀ k s t a m → length a ≡ 8 * n
-  ran-long k n s t a m h e r = ap length (r .answers) ∙ simp (length-append, length-drop, answers-long k) (omega arith)
 
   pub ran-all : (n : ℕ) (s : List ℤ) (t a : List ℕ) (m : ℕ) → length a₀ ≡ 8 * n → RanTo W H s₀ t₀ b a₀ n s t a m → Ran (state n) s t a m
   ran-all n s t a m e r = record {
@@ -94,14 +77,3 @@ module _ (W H : ℕ) (s₀ : List ℤ) (t₀ b a₀ : List ℕ) where
     answers = r .answers ∙ ap (λ l. state n .answers ++ l) (drop-of-length-le a₀ {i = 8 * n} (omega arith)) ∙ append-nil (state n .answers);
     accepted = r .accepted;
   }
-
--- ---- two outcomes that a contract allows are equal
-
-pub served-one-way : (W H : ℕ) (q : List ℕ) (s : List ℤ) (t : List ℕ) (s₁ s₂ : List ℤ) (t₁ a₁ t₂ a₂ : List ℕ) (n₁ n₂ : ℕ) → Served W H q s t s₁ t₁ a₁ n₁ → Served W H q s t s₂ t₂ a₂ n₂ →
-    (s₁ ≡ s₂) × (t₁ ≡ t₂) × (a₁ ≡ a₂) × (n₁ ≡ n₂)
-served-one-way W H q s t s₁ s₂ t₁ a₁ t₂ a₂ n₁ n₂ p r =
-    (p .weights ∙ sym (r .weights), p .table ∙ sym (r .table), p .answer ∙ sym (r .answer), p .accepted ∙ sym (r .accepted))
-
-pub ran-one-way : (b : State) (s₁ s₂ : List ℤ) (t₁ a₁ t₂ a₂ : List ℕ) (n₁ n₂ : ℕ) → Ran b s₁ t₁ a₁ n₁ → Ran b s₂ t₂ a₂ n₂ → (s₁ ≡ s₂) × (t₁ ≡ t₂) × (a₁ ≡ a₂) × (n₁ ≡ n₂)
-ran-one-way b s₁ s₂ t₁ a₁ t₂ a₂ n₁ n₂ p r =
-    (p .weights ∙ sym (r .weights), p .table ∙ sym (r .table), p .answers ∙ sym (r .answers), p .accepted ∙ sym (r .accepted))

@@ -16,8 +16,7 @@ use Rattle.rules.specs.Blocks.{State}
 use Rattle.rules.specs.declared.Rect.{Rect}
 use Rattle.rules.specs.declared.Step.{Step}
 use Rattle.rules.specs.declared.Step.the-variants.{Refused, Done}
-use Rattle.modules.specs.Walk.{On}
-use Rattle.modules.specs.Change.{Placing, Taking}
+use Rattle.meaning.specs.Change.{On, Placing, Taking}
 
 -- a byte that must be zero is not
 unfoldable pub stray : List ℕ → Bool

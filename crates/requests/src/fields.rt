@@ -3,21 +3,15 @@ ghost use mathlib.Core.Path.{_≡_};
 ghost use Prim.Native.Nat.{_+_, _*_, _<_};
 ghost use lib.ListN.{length, getD};
 ghost use Rattle.rules.specs.Requests.{idAsked, pinned as pinnedAt};
-ghost use Rattle.modules.specs.Change.{Bytes};
+ghost use Rattle.table.specs.Record.{Bytes};
 use rules::Rect;
-
-fn wide(b: u8) -> usize
-    ensures { λ r. ⌜ (r ≡ b) × (r < 256) ⌝ }
-{
-    b as usize
-}
 
 // Byte k of a request.
 pub fn byte(q: &[u8], k: usize) -> usize
     requires { ⌜ k < length (now q) ⌝ }
     ensures { λ r. ⌜ (r ≡ getD (now (q .entry)) k 0) × (r < 256) ⌝ }
 {
-    wide(q[k])
+    table::wide(q[k])
 }
 
 pub fn id_asked(q: &[u8]) -> usize

@@ -4,7 +4,7 @@ ghost use Prim.Native.Nat.{_+_, _*_, _≤_, _<_};
 ghost use lib.ListN.{length};
 ghost use Rattle.rules.specs.Surface.{Standing, occupied};
 ghost use Rattle.rules.specs.Requests.{operation, ruleOf, wide, high, rulePlace, stepOf};
-ghost use Rattle.modules.specs.Change.{Bytes};
+ghost use Rattle.table.specs.Record.{Bytes};
 ghost use Rattle.requests.specs.Steps.{past, ruleStep, Passes, Judged};
 use super::fields::byte;
 use super::fields::id_asked;
@@ -37,7 +37,7 @@ fn judge_place(w: usize, h: usize, s: &[i16], t: &[u8], q: &[u8]) -> Step
     requires { ⌜ (length (now q) ≡ 8) × Passes (now t) (now q) × (operation (now q) ≡ 1) ⌝ }
     ensures { λ r. ⌜ r ≡ stepOf w h (now (t .entry)) (now (q .entry)) ⌝ }
 {
-    let i = modules::lowest_free(t);
+    let i = table::lowest_free(t);
     if t.len() / 8 <= i {
         return Step::Refused(19);
     }
@@ -50,7 +50,7 @@ fn judge_remove(w: usize, h: usize, s: &[i16], t: &[u8], q: &[u8]) -> Step
     requires { ⌜ (length (now q) ≡ 8) × Passes (now t) (now q) × (operation (now q) ≡ 2) ⌝ }
     ensures { λ r. ⌜ r ≡ stepOf w h (now (t .entry)) (now (q .entry)) ⌝ }
 {
-    let i = modules::slot_of(t, id_asked(q));
+    let i = table::slot_of(t, id_asked(q));
     Step::Done(i, table::rect_at(t, i))
 }
 
@@ -75,7 +75,7 @@ fn judge_pin(w: usize, h: usize, s: &[i16], t: &[u8], q: &[u8]) -> Step
     if is_past(w, h, r) {
         return Step::Refused(18);
     }
-    let i = modules::lowest_free(t);
+    let i = table::lowest_free(t);
     if t.len() / 8 <= i {
         return Step::Refused(19);
     }
@@ -91,7 +91,7 @@ fn judge_exchange(w: usize, h: usize, s: &mut [i16], t: &mut [u8], q: &[u8]) -> 
     requires { ⌜ (length (now q) ≡ 8) × Passes (now t) (now q) × (operation (now q) ≡ 4) ⌝ }
     ensures { λ r. ⌜ Judged w h (now (q .entry)) (now (s .entry)) (now (t .entry)) (now (s .exit)) (now (t .exit)) r ⌝ }
 {
-    let i = modules::slot_of(t, id_asked(q));
+    let i = table::slot_of(t, id_asked(q));
     let at = 8 * i;
     let low = t[at];
     let high = t[at + 1];

@@ -5,7 +5,7 @@ ghost use Prim.Native.Nat.{_<_};
 ghost use lib.ListN.{length};
 ghost use Rattle.rules.specs.Surface.{Standing, withRecord, fresh};
 ghost use Rattle.rules.specs.Requests.{operation, idLow, idHigh, codeOf, recordAfter};
-ghost use Rattle.modules.specs.Change.{Bytes};
+ghost use Rattle.table.specs.Record.{Bytes};
 ghost use Rattle.requests.specs.Steps.{Changing, Served};
 use super::judge::judge;
 use rules::Rect;
@@ -20,13 +20,6 @@ fn code_of(d: Step) -> u8
     }
 }
 
-fn byte_of(n: usize) -> u8
-    requires { ⌜ n < 256 ⌝ }
-    ensures { λ r. ⌜ r ≡ n ⌝ }
-{
-    n as u8
-}
-
 // "code, operation and id as they came, then x, y, w, h"
 fn answer(q: &[u8], a: &mut [u8], code: u8, r: Rect)
     requires { ⌜ (length (now q) ≡ 8) × (length (now a) ≡ 8) ⌝ }
@@ -37,10 +30,10 @@ fn answer(q: &[u8], a: &mut [u8], code: u8, r: Rect)
     a[1] = q[0];
     a[2] = q[2];
     a[3] = q[3];
-    a[4] = byte_of(r.x);
-    a[5] = byte_of(r.y);
-    a[6] = byte_of(r.w);
-    a[7] = byte_of(r.h);
+    a[4] = table::byte_of(r.x);
+    a[5] = table::byte_of(r.y);
+    a[6] = table::byte_of(r.w);
+    a[7] = table::byte_of(r.h);
 }
 
 // Operation 2 takes the module of slot i out. The others put the module r there, under the request's id: an exchange into the slot that judging

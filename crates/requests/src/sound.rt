@@ -85,7 +85,7 @@ fn placed(t: &[u8], q: &[u8]) -> bool
     requires { ⌜ (length (now t) ≡ 8 * slots (now t)) × (length (now q) ≡ 8) ⌝ }
     ensures { λ r. ⌜ r ≡ idPlaced (now (t .entry)) (idAsked (now (q .entry))) ⌝ }
 {
-    modules::slot_of(t, id_asked(q)) < t.len() / 8
+    table::slot_of(t, id_asked(q)) < t.len() / 8
 }
 
 // 15: id already placed

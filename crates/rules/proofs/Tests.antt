@@ -5,12 +5,18 @@ use mathlib.Core.Logic.{_⊎_, inl, inr, ⊎-elim}
 use mathlib.Core.List.{List, [], _∷_, _++_, List·Memᴰ, List·Memᴰ·head, List·Memᴰ·tail, List·Memᴰ·not-nil, List·Memᴰ·cases-cons, List·Memᴰ·append-cases, Memᴰ·append-left, Memᴰ·append-right, Memᴰ·cast}
 use Prim.Native.Nat.{ℕ, zero, suc, _+_, _*_, _≤_, _<_}
 use native.Mathlib.Nat.{le-refl, eq-or-lt-of-le, le-of-suc-le-suc}
+use native.Mathlib.Decide.{decLt}
 use native.Mathlib.Omega.{arith}
 use lib.ListN.{length, getD, length-append}
 use lib.IntN.{ℤ, pos, negsuc}
 use lib.Dec.{eqb}
-use borrow.Author.Tests.{eqb-true, eq-eqb}
+use borrow.Author.Tests.{eqb-true, eq-eqb, not-true, not-false}
 use Rattle.rules.specs.Tests.{every, any, total, count, leastFrom, least, eqZ, tabFrom, tab, put, keep, all, chain}
+
+-- ---- numbers
+
+pub lt-or-le : (a b : ℕ) → (a < b) ⊎ (b ≤ a)
+lt-or-le a b = elim (decLt a b) [ yes h ↦ inl h | no h ↦ inr (omega arith) ]
 
 -- ---- Bools
 
@@ -87,16 +93,6 @@ every-yes (suc n) p h = and-both (every-yes n p (λ k l. h k (omega arith))) (h 
 pub every-no : (n : ℕ) (p : ℕ → Bool) (k : ℕ) → k < n → p k ≡ false → every n p ≡ false
 every-no n p k h e = fails (every n p) (λ q. true≢false (sym (every-at n p q k h) ∙ e))
 
--- where it fails
-pub every-fails : (n : ℕ) (p : ℕ → Bool) → every n p ≡ false → (k : ℕ) × (k < n) × (p k ≡ false)
-unfolding every
-every-fails zero p e = absurd (true≢false e)
-every-fails (suc n) p e =
-    ⊎-elim
-    (λ (q : every n p ≡ false). let w = every-fails n p q in (w .0, omega (arith, w .1), w .2))
-    (λ (q : p n ≡ false). (n, omega arith, q))
-    (and-fails (every n p) (p n) e)
-
 -- ---- any
 
 pub any-yes : (n : ℕ) (p : ℕ → Bool) (k : ℕ) → k < n → p k ≡ true → any n p ≡ true
@@ -122,6 +118,15 @@ any-none n p e k h = fails (p k) (λ q. true≢false (sym (any-yes n p k h q) �
 
 pub none-any : (n : ℕ) (p : ℕ → Bool) → ((k : ℕ) → k < n → p k ≡ false) → any n p ≡ false
 none-any n p h = fails (any n p) (λ q. let w = any-at n p q in true≢false (sym (w .2) ∙ h (w .0) (w .1)))
+
+-- where not every one holds, some one fails
+pub every-fails : (n : ℕ) (p : ℕ → Bool) → every n p ≡ false → (k : ℕ) × (k < n) × (p k ≡ false)
+every-fails n p e =
+    let q : ℕ → Bool = λ k. not (p k) in
+    ⊎-elim
+    (λ (t : any n q ≡ true). let w = any-at n q t in (w .0, w .1, not-true (p (w .0)) (w .2)))
+    (λ (f : any n q ≡ false). not-both (every n p) (every-yes n p (λ k h. not-false (p k) (any-none n q f k h))) e)
+    (decide (any n q))
 
 -- the same tests give the same
 pub every-same : (n : ℕ) (p q : ℕ → Bool) → ((k : ℕ) → k < n → p k ≡ q k) → every n p ≡ every n q
@@ -166,6 +171,16 @@ pub total-same : (n : ℕ) (f g : ℕ → ℕ) → ((k : ℕ) → k < n → f k 
 unfolding total
 total-same zero f g h = refl
 total-same (suc n) f g h = ap₂ _+_ (total-same n f g (λ k l. h k (omega arith))) (h n (omega arith))
+
+-- at most as many as there are
+pub count-le : (n : ℕ) (p : ℕ → Bool) → count n p ≤ n
+unfolding total
+count-le zero p = omega arith
+count-le (suc n) p = go (p n) (count-le n p)
+  where
+    go : (b : Bool) → count n p ≤ n → count n p + cond b 1 0 ≤ suc n
+    go true h = omega arith
+    go false h = omega arith
 
 -- ---- signed numbers
 

@@ -19,24 +19,31 @@ started s t = record { weights = s; table = t; answers = []; accepted = 0 }
 
 -- one request, with the eight bytes q, that comes to d
 abbrev pub withStep : ℕ → ℕ → List ℕ → Step → State → State
-withStep W H q d b = record {
-  weights = weightsAfter W H q d (b .table) (b .weights);
-  table = tableAfter q d (b .table);
-  answers = b .answers ++ answerOf q d;
-  accepted = b .accepted + acceptedOne d;
+withStep W H q d z = record {
+  weights = weightsAfter W H q d (z .table) (z .weights);
+  table = tableAfter q d (z .table);
+  answers = z .answers ++ answerOf q d;
+  accepted = z .accepted + acceptedOne d;
 }
 
-unfoldable pub next : ℕ → ℕ → List ℕ → State → State
-next W H q b = withStep W H q (stepOf W H (b .table) q) b
+-- what a request comes to may be said by any step function, of table and request; by the rules it is `stepOf`
+unfoldable pub nextBy : (List ℕ → List ℕ → Step) → ℕ → ℕ → List ℕ → State → State
+nextBy f W H q z = withStep W H q (f (z .table) q) z
+
+abbrev pub next : ℕ → ℕ → List ℕ → State → State
+next W H q z = nextBy (stepOf W H) W H q z
 
 -- how many requests a block has, and the eight bytes of request k
 abbrev pub requests : List ℕ → ℕ
-requests b = length b / 8
+requests q = length q / 8
 
 abbrev pub request : List ℕ → ℕ → List ℕ
-request b k = take 8 (drop (8 * k) b)
+request q k = take 8 (drop (8 * k) q)
 
--- after the first k requests of block b
-unfoldable pub after : ℕ → ℕ → List ℕ → State → ℕ → State
-after W H b a zero = a
-after W H b a (suc k) = next W H (request b k) (after W H b a k)
+-- after the first k requests of block q
+unfoldable pub afterBy : (List ℕ → List ℕ → Step) → ℕ → ℕ → List ℕ → State → ℕ → State
+afterBy f W H q z zero = z
+afterBy f W H q z (suc k) = nextBy f W H (request q k) (afterBy f W H q z k)
+
+abbrev pub after : ℕ → ℕ → List ℕ → State → ℕ → State
+after W H q z k = afterBy (stepOf W H) W H q z k

@@ -1,9 +1,9 @@
 -- THE FOUR CALLS: code, counts and every lent buffer afterwards, for any numbers and any bytes. "Each call returns a code and its counts; the
 -- counts are 0 when it refuses." "A refused call writes to no lent buffer."
 --
--- Each is stated once, over `bad`: whether the weights have the wrong length. That is tested in numbers here (`badWeights`), and in bytes
--- where the host lends bytes (Host).
-use mathlib.Core.Bool.{Bool, not, cond, _&&_, _||_}
+-- Each is stated over `bad`: whether the weights have the wrong length. That is tested in bytes, as the host lends them (Host), and in numbers for the
+-- figures (Figures).
+use mathlib.Core.Bool.{Bool, not, cond, _||_}
 use mathlib.Core.List.{List, [], _∷_, _++_}
 use Prim.Native.Nat.{ℕ, _+_, _*_, _/_, _%_}
 use lib.Dec.{ltb, eqb}
@@ -18,13 +18,9 @@ use Rattle.rules.specs.declared.Rect.{Rect}
 
 -- ---- the codes, "Given exactly when"; "The lowest code that applies is given."
 
--- 1: W or H not in 1..64
+-- 1: W or H not in 1..64. (2 is `bad`)
 unfoldable pub badSize : ℕ → ℕ → Bool
 badSize W H = not (between 1 64 W) || not (between 1 64 H)
-
--- 2: weights not W·H long
-abbrev pub badWeights : ℕ → ℕ → List ℤ → Bool
-badWeights W H s = not (eqb (length s) (W * H))
 
 -- 3: table not a multiple of 8 bytes, or not 1..256 slots; n is its length
 unfoldable pub badTable : ℕ → Bool
@@ -36,7 +32,7 @@ badBlock n = not (eqb (n % 8) 0) || ltb 512 (n / 8)
 
 -- 5: answers not as long as the block
 abbrev pub badAnswers : List ℕ → List ℕ → Bool
-badAnswers b a = not (eqb (length a) (length b))
+badAnswers q a = not (eqb (length a) (length q))
 
 -- 6: the surface does not stand
 abbrev pub fallen : ℕ → ℕ → List ℤ → List ℕ → Bool
@@ -60,6 +56,15 @@ standLines W H s t = let unsound = fallen W H s t in 6 when unsound ∷ []
 -- "A result is code + 2^16·first count + 2^32·second."
 abbrev pub resultOf : ℕ → ℕ → ℕ → ℕ
 resultOf code one two = code + 65536 * one + 4294967296 * two
+
+abbrev pub codeOfResult : ℕ → ℕ
+codeOfResult r = r % 65536
+
+abbrev pub firstOfResult : ℕ → ℕ
+firstOfResult r = r / 65536 % 65536
+
+abbrev pub secondOfResult : ℕ → ℕ
+secondOfResult r = r / 4294967296 % 65536
 
 -- ---- clear: codes 1, 2, 3; no count
 
@@ -88,9 +93,6 @@ clearWith bad W H s t =
     let table = clearedTable t in
     record { code = clearCode bad W H t; weights = cond done weights s; table = cond done table t }
 
-abbrev pub clear : ℕ → ℕ → List ℤ → List ℕ → Cleared
-clear W H s t = clearWith (badWeights W H s) W H s t
-
 abbrev pub clearResult : Cleared → ℕ
 clearResult r = resultOf (r .code) 0 0
 
@@ -111,19 +113,16 @@ checkWith bad W H s t =
     let used = usedSlots t in
     record { code = checkCode bad W H s t; used = cond (eqb (checkCode bad W H s t) 0) used 0 }
 
-abbrev pub check : ℕ → ℕ → List ℤ → List ℕ → Checked
-check W H s t = checkWith (badWeights W H s) W H s t
-
 abbrev pub checkResult : Checked → ℕ
 checkResult r = resultOf (r .code) (r .used) 0
 
 -- ---- run a block: codes 1 to 6; counts the requests accepted
 
 unfoldable pub runLines : Bool → ℕ → ℕ → List ℤ → List ℕ → List ℕ → List ℕ → List Line
-runLines bad W H s t b a = sizeLines bad W H (length t) ++ (4 when badBlock (length b) ∷ 5 when badAnswers b a ∷ []) ++ standLines W H s t
+runLines bad W H s t q a = sizeLines bad W H (length t) ++ (4 when badBlock (length q) ∷ 5 when badAnswers q a ∷ []) ++ standLines W H s t
 
 unfoldable pub runCode : Bool → ℕ → ℕ → List ℤ → List ℕ → List ℕ → List ℕ → ℕ
-runCode bad W H s t b a = first (runLines bad W H s t b a)
+runCode bad W H s t q a = first (runLines bad W H s t q a)
 
 pub record Ran : Type 0 where
   pub code : ℕ
@@ -133,15 +132,12 @@ pub record Ran : Type 0 where
   pub answers : List ℕ
 
 unfoldable pub runWith : Bool → ℕ → ℕ → List ℤ → List ℕ → List ℕ → List ℕ → Ran
-runWith bad W H s t b a =
-    let done = eqb (runCode bad W H s t b a) 0 in
-    let end = after W H b (started s t) (requests b) in
+runWith bad W H s t q a =
+    let done = eqb (runCode bad W H s t q a) 0 in
+    let end = after W H q (started s t) (requests q) in
     let refused : State = record { weights = s; table = t; answers = a; accepted = 0 } in
     let left : State = cond done end refused in
-    record { code = runCode bad W H s t b a; accepted = left .accepted; weights = left .weights; table = left .table; answers = left .answers }
-
-abbrev pub run : ℕ → ℕ → List ℤ → List ℕ → List ℕ → List ℕ → Ran
-run W H s t b a = runWith (badWeights W H s) W H s t b a
+    record { code = runCode bad W H s t q a; accepted = left .accepted; weights = left .weights; table = left .table; answers = left .answers }
 
 abbrev pub runResult : Ran → ℕ
 runResult r = resultOf (r .code) (r .accepted) 0
@@ -171,9 +167,6 @@ listWith bad W H s t room =
     let turns = corners W H t in
     let written = roomAfter W H t room in
     record { code = listCode bad W H s t room; entries = cond done found 0; corners = cond done turns 0; room = cond done written room }
-
-abbrev pub list : ℕ → ℕ → List ℤ → List ℕ → List ℕ → Listed
-list W H s t room = listWith (badWeights W H s) W H s t room
 
 abbrev pub listResult : Listed → ℕ
 listResult r = resultOf (r .code) (r .entries) (r .corners)

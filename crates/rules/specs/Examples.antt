@@ -7,8 +7,7 @@ use lib.Dec.{eqb}
 use Rattle.rules.specs.Tests.{all}
 use Rattle.rules.specs.Surface.{rect, recordOf, occupied, fresh}
 use Rattle.rules.specs.Empties.{entries, corner, corners}
-use Rattle.rules.specs.Calls.{check, list}
-use Rattle.rules.specs.Figures.{Case, caseHolds, eight, free, e, o}
+use Rattle.rules.specs.Figures.{check, list, Case, caseHolds, eight, free, e, o}
 use Rattle.rules.specs.declared.Rect.{Rect}
 
 -- ---- "the reverse does not hold": 3×2 with modules at (0, 1) and (1, 0). Row 0 is scanned, for the first module's sake; (2, 0) stands in the

@@ -1,9 +1,9 @@
 -- THE WORKED FIGURES, cases A to I: one table under one proved statement, of the definitions. Each case clears a surface, runs its requests as a
 -- block, checks and lists; answers, accepted count, weights, table, used slots, list and corners are those that stand here.
 use mathlib.Core.Path.{_≡_, refl}
-use mathlib.Core.Bool.{Bool, true, false, cond, _&&_}
+use mathlib.Core.Bool.{Bool, true, false, not, _&&_}
 use mathlib.Core.List.{List, [], _∷_, _++_}
-use Prim.Native.Nat.{ℕ, _+_, _*_}
+use Prim.Native.Nat.{ℕ, _*_}
 use lib.Dec.{eqb}
 use lib.IntN.{ℤ, pos, negℤ}
 use lib.ListN.{length, replicate}
@@ -17,8 +17,26 @@ use Rattle.rules.specs.Judging
 use Rattle.rules.specs.Requests
 use Rattle.rules.specs.Blocks
 use Rattle.rules.specs.Calls
-use Rattle.rules.specs.Calls.{clear, check, run, list}
+use Rattle.rules.specs.Calls.{Cleared, clearWith, Checked, checkWith, Ran, runWith, Listed, listWith}
 use Rattle.rules.specs.declared.Rect.{Rect}
+
+-- ---- the calls on numbers, not bytes
+
+-- 2: weights not W·H long
+abbrev pub badWeights : ℕ → ℕ → List ℤ → Bool
+badWeights W H s = not (eqb (length s) (W * H))
+
+abbrev pub clear : ℕ → ℕ → List ℤ → List ℕ → Cleared
+clear W H s t = clearWith (badWeights W H s) W H s t
+
+abbrev pub check : ℕ → ℕ → List ℤ → List ℕ → Checked
+check W H s t = checkWith (badWeights W H s) W H s t
+
+abbrev pub run : ℕ → ℕ → List ℤ → List ℕ → List ℕ → List ℕ → Ran
+run W H s t q a = runWith (badWeights W H s) W H s t q a
+
+abbrev pub list : ℕ → ℕ → List ℤ → List ℕ → List ℕ → Listed
+list W H s t room = listWith (badWeights W H s) W H s t room
 
 pub record Case : Type 0 where
   -- the surface
@@ -46,7 +64,7 @@ sameItems f (a ∷ l) (b ∷ m) = sameItems f l m && f a b
 
 -- whoever unfolds `caseHolds` unfolds all the rules: the statements below are computed
 unfoldable pub caseHolds : Case → Bool
-unfolding Tests.every Tests.any Tests.total Tests.leastFrom Tests.tabFrom Tests.keep Tests.all Tests.chain Surface.covers Surface.freeSlot Surface.holds Surface.occupied Surface.holder Surface.upwards Surface.remaining Surface.weight Surface.fresh Surface.soundSlot Surface.slotsSound Surface.idsDiffer Surface.modulesApart Surface.weightsRight Surface.stands Surface.usedSlots Empties.onSurface Empties.cellsEmpty Empties.empty Empties.rects Empties.maximal Empties.entries Empties.entryRecords Empties.scanned Empties.corner Empties.corners Judging.first Requests.zeros Requests.idPlaced Requests.slotOf Requests.someFree Requests.lowestFree Requests.ground Requests.position Requests.cost Requests.cheapest Requests.chosen Requests.rulePlace Requests.soundLines Requests.placeLines Requests.acceptedStep Requests.stepOf Blocks.next Blocks.after Calls.clearLines Calls.clearCode Calls.clearedWeights Calls.clearWith Calls.checkLines Calls.checkCode Calls.checkWith Calls.runLines Calls.runCode Calls.runWith Calls.listLines Calls.listCode Calls.listWith Calls.badSize Calls.badTable Calls.badBlock
+unfolding Tests.every Tests.any Tests.total Tests.leastFrom Tests.tabFrom Tests.keep Tests.all Tests.chain Surface.covers Surface.freeSlot Surface.holds Surface.occupied Surface.holder Surface.upwards Surface.number Surface.remaining Surface.weight Surface.fresh Surface.soundSlot Surface.slotsSound Surface.idsDiffer Surface.modulesApart Surface.weightsRight Surface.stands Surface.usedSlots Empties.onSurface Empties.cellsEmpty Empties.empty Empties.rects Empties.maximal Empties.entries Empties.entryRecords Empties.scanned Empties.corner Empties.corners Judging.first Requests.zeros Requests.idPlaced Requests.slotOf Requests.someFree Requests.lowestFree Requests.ground Requests.position Requests.cost Requests.cheapest Requests.chosen Requests.rulePlace Requests.soundLines Requests.placeLines Requests.acceptedStep Requests.stepOf Blocks.nextBy Blocks.afterBy Calls.clearLines Calls.clearCode Calls.clearedWeights Calls.clearWith Calls.checkLines Calls.checkCode Calls.checkWith Calls.runLines Calls.runCode Calls.runWith Calls.listLines Calls.listCode Calls.listWith Calls.badSize Calls.badTable Calls.badBlock
 caseHolds c =
     let blank = clear (c .w) (c .h) (replicate (c .w * c .h) (pos 9)) (replicate (8 * c .slots) 9) in
     let ran = run (c .w) (c .h) (blank .weights) (blank .table) (c .block) (replicate (length (c .block)) 9) in

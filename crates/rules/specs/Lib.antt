@@ -4,8 +4,10 @@ pub mod Surface
 pub mod Empties
 pub mod Judging
 pub mod Requests
+pub mod Place
 pub mod Blocks
 pub mod Calls
 pub mod Host
 pub mod Figures
 pub mod Examples
+pub mod HostFigures

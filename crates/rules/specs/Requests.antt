@@ -1,11 +1,11 @@
 -- REQUESTS: the fields of a request, what it comes to, its answer, and what it leaves in weights and table. q is a request's eight bytes, t the table, s the weights.
-use mathlib.Core.Bool.{Bool, true, false, not, cond, _&&_, _||_}
+use mathlib.Core.Bool.{Bool, false, not, cond, _&&_, _||_}
 use mathlib.Core.List.{List, [], _∷_, _++_}
 use mathlib.Core.Option.{Option, none, some}
 use Prim.Native.Nat.{ℕ, zero, suc, _+_, _-_, _*_}
 use lib.Dec.{leb, ltb, eqb}
 use lib.IntN.{ℤ}
-use lib.ListN.{length, getD}
+use lib.ListN.{getD}
 use Rattle.rules.specs.Tests.{any, least, between, keep, all}
 use Rattle.rules.specs.Surface.{rect, slots, idOf, rectOf, recordOf, freeRecord, freeSlot, usedSlot, withRecord, occupied, fresh}
 use Rattle.rules.specs.Empties.{cellsEmpty, empty, entries, area}
@@ -205,11 +205,15 @@ acceptedStep W H t q =
     (cond (isExchange q) (Done old byRulePlace)
     (Refused 11))))
 
+-- what is done where the code is 0, else the refusal by this code
+abbrev pub judgedTo : ℕ → Step → Step
+judgedTo code done = cond (eqb code 0) done (Refused code)
+
 unfoldable pub stepOf : ℕ → ℕ → List ℕ → List ℕ → Step
 stepOf W H t q =
     let code = first (judging W H t q) in
     let done = acceptedStep W H t q in
-    cond (eqb code 0) done (Refused code)
+    judgedTo code done
 
 -- ---- what each step means: its number, its values, what it leaves
 

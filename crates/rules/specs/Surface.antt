@@ -78,9 +78,12 @@ upwards occ x zero = cond (occ x 0) 0 1
 upwards occ x (suc y) = cond (occ x (suc y)) 0 (suc (upwards occ x y))
 
 -- "An occupied cell in column c of a module (x, y, w, h) holds −(x + w − c), the width that remains to the right."
--- (the number of a cell in column c of the module in slot i)
+-- (the number of a cell in column c of the module r in slot i; the slot says nothing here; the cell holds its negative)
+unfoldable pub number : ℕ → Rect → ℕ → ℕ
+number i r c = r .x + r .w - c
+
 unfoldable pub remaining : List ℕ → ℕ → ℕ → ℤ
-remaining t i c = negℤ (pos (rectOf t i .x + rectOf t i .w - c))
+remaining t i c = negℤ (pos (number i (rectOf t i) c))
 
 unfoldable pub weight : List ℕ → ℕ → ℕ → ℤ
 weight t x y = cond (occupied t x y) (remaining t (holder t x y) x) (pos (upwards (occupied t) x y))
@@ -119,12 +122,16 @@ weightsRight W H s t = every H (λ y. every W (λ x. eqZ (cell W s x y) (weight 
 unfoldable pub stands : ℕ → ℕ → List ℤ → List ℕ → Bool
 stands W H s t = slotsSound W H t && idsDiffer t && modulesApart W H t && weightsRight W H s t
 
--- a surface whose sizes and lengths are right and that stands: what a call has found out before it goes on. What inner functions ask
-pub record Standing (W H : ℕ) (s : List ℤ) (t : List ℕ) : Type 0 where
+-- "W columns and H rows, each 1 to 64."
+pub record Sides (W H : ℕ) : Type 0 where
   pub wide : 1 ≤ W
   pub widest : W ≤ 64
   pub high : 1 ≤ H
   pub highest : H ≤ 64
+
+-- a surface whose sizes and lengths are right and that stands: what a call has found out before it goes on. What inner functions ask
+pub record Standing (W H : ℕ) (s : List ℤ) (t : List ℕ) : Type 0 where
+  pub sides : Sides W H
   pub long : length s ≡ W * H
   pub whole : length t ≡ 8 * slots t
   pub some : 1 ≤ slots t

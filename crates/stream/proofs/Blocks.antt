@@ -12,16 +12,16 @@ use lib.ListN.{length, take, drop, take-append-drop, getD, length-drop}
 use lib.Seq.{drop-append-add, take-all, getD-take, getD-drop}
 use Rattle.rules.specs.Surface.{Standing}
 use Rattle.rules.specs.Requests.{operation, answerOf, stepOf, weightsAfter, tableAfter}
-use Rattle.rules.specs.Blocks.{State, started, next, request, after}
+use Rattle.rules.specs.Blocks.{State, started, next, request, after, afterBy, nextBy}
 use Rattle.rules.proofs.Tests.{not-both}
 use Rattle.cells.proofs.Parts.{part-long}
-use Rattle.modules.proofs.Left.{after-stands}
-use Rattle.demands.proofs.Cuts.{request-left}
+use Rattle.meaning.proofs.Steps.{after-stands}
+use Rattle.demands.proofs.Blocks.{request-left}
 use Rattle.requests.specs.Steps.{Ran}
 use Rattle.stream.specs.Records.{Kept, kept, onto, answerTo, nextRecord, records, afterRecords, answersTo}
 use Rattle.stream.specs.Promise.{Ready, Holds, Served, ServedAll, Requests, apart, Together}
 use Rattle.stream.proofs.Cuts.{behind, part, part-is-long}
-use Rattle.stream.proofs.Laws.{on-surface, not-apart, held, front-long, at-start, fits-room}
+use Rattle.stream.proofs.Laws.{on-surface, not-apart, held, at-start, front-ready}
 
 -- what is behind the surface in the room stays
 past-start : (n : ℕ) (p s : List ℤ) → length p ≡ n → drop n (onto n p s) ≡ drop n s
@@ -42,7 +42,7 @@ module _ (b : List ℕ) (w h : ℕ) (s : List ℤ) (t : List ℕ) (ready : Ready
 
   -- one request on what the block has left so far
   one-kept : (q : List ℕ) (u : State) → length (u .weights) ≡ w * h → (operation q ≡ 5 → ⊥) → nextRecord q (as-kept u) ≡ as-kept (next w h q u)
-  unfolding next
+  unfolding nextBy
   one-kept q u e n =
       let d = stepOf w h (u .table) q in
       on-surface q (as-kept u) n some .0
@@ -53,12 +53,12 @@ module _ (b : List ℕ) (w h : ℕ) (s : List ℤ) (t : List ℕ) (ready : Ready
 
   -- the records in turn leave what the block leaves
   pub block-kept : (n : ℕ) → Requests b n → (k : ℕ) → k ≤ n → afterRecords b z k ≡ as-kept (at k)
-  unfolding afterRecords after
+  unfolding afterRecords afterBy
   block-kept n r zero l = ap (λ x. kept w h x t) (sym (take-append-drop (w * h) s))
   block-kept n r (suc k) l = ap (nextRecord (request b k)) (block-kept n r k (omega arith)) ∙ one-kept (request b k) (at k) (long k) (r k (omega arith))
 
   pub block-answered : (n : ℕ) → Requests b n → (k : ℕ) → k ≤ n → answersTo b z k ≡ at k .answers
-  unfolding answersTo after next
+  unfolding answersTo afterBy nextBy
   block-answered n r zero l = refl
   block-answered n r (suc k) l =
       ap₂ _++_ (block-answered n r k (omega arith)) (ap (answerTo (request b k)) (block-kept n r k (omega arith)) ∙ one-answered (request b k) (at k) (r k (omega arith)))
@@ -72,11 +72,7 @@ module _ (b : List ℕ) (w h : ℕ) (s : List ℤ) (t : List ℕ) (ready : Ready
       record {
         holds = held (afterRecords b z k) w h (onto (w * h) p s) t′ (e ∙ ap₂ (λ x y. kept w h (onto (w * h) x s) y) (sym (v .weights)) (sym (v .table)));
         answers = v .answers ∙ sym (block-answered k r k (omega arith));
-        ready = record {
-          long = front-long (w * h) p s (d .long) (fits-room w h s t ready some .0) (ready .long);
-          slots = lt ∙ ready .slots;
-          stands = λ _. subst⁻¹ (λ x. Standing w h x t′) (at-start (w * h) p s (d .long)) d;
-        };
+        ready = front-ready w h p s t′ d (ready .long) (lt ∙ ready .slots);
       }
 
 -- one record

@@ -2,7 +2,7 @@
 use mathlib.Core.Path.{_≡_, refl, sym, ap, _∙_, subst, subst⁻¹}
 use mathlib.Core.Bool.{Bool, true, false, cond, true≢false, false≢true}
 use mathlib.Core.Logic.{_↔_, ⊎-elim}
-use mathlib.Core.List.{List, [], _∷_, _++_}
+use mathlib.Core.List.{List, [], _∷_}
 use Prim.Native.Nat.{ℕ, zero, suc, _+_, _≤_, _<_}
 use native.Mathlib.Decide.{ℕ-discrete}
 use native.Mathlib.Nat.{eq-or-lt-of-le, le-of-suc-le-suc}
@@ -10,55 +10,40 @@ use native.Mathlib.Omega.{arith}
 use borrow.Author.Tests.{eqb-true, not-false}
 use lib.Dec.{eqb}
 use Rattle.rules.specs.Tests.{all}
-use Rattle.rules.specs.Judging.{first}
 use Rattle.rules.specs.Requests.{operation, ruleOf, idLow, idHigh, wide, high, byte6, byte7, stepOf, codeOf, answerOf}
 use Rattle.rules.specs.Blocks.{request}
 use Rattle.rules.specs.Calls.{badSize}
 use Rattle.rules.specs.declared.Step.{Step}
 use Rattle.rules.specs.declared.Step.the-variants.{Refused, Done}
 use Rattle.rules.proofs.Tests.{and-left, and-right}
-use Rattle.meaning.proofs.Lowest.{refused-code}
-use Rattle.surface.proofs.SlotLaws.{good-size}
+use Rattle.meaning.proofs.Steps.{refused-code}
+use Rattle.meaning.proofs.Codes.{good-size}
 use Rattle.demands.specs.History.{codeIn}
-use Rattle.demands.proofs.Cuts.{request-left, request-right}
-use Rattle.stream.specs.Records.{Kept, strayClear, clearRecordLines, clearRecordCode, answerTo, nextRecord, afterRecords, answersTo}
+use Rattle.demands.proofs.Blocks.{record-at}
+use Rattle.stream.specs.Records.{Kept, strayClear, clearRecordCode, answerTo, nextRecord, afterRecords, answersTo}
 use Rattle.stream.specs.Promise.{AcceptedClear}
-use Rattle.stream.proofs.Laws.{clear-refused, clear-done, none-yet, on-surface, sizes-told}
+use Rattle.stream.proofs.Laws.{code-is, clear-refused, clear-done, none-yet, on-surface, sizes-told}
 use Rattle.stream.proofs.Turns.{answers-long}
 
 -- ---- 12, then 1
 
-pub code-as : (q : List ℕ) → clearRecordCode q ≡ cond (strayClear q) 12 (cond (badSize (wide q) (high q)) 1 0)
-unfolding clearRecordCode clearRecordLines first
-code-as q = refl
+code-as : (q : List ℕ) → clearRecordCode q ≡ cond (strayClear q) 12 (cond (badSize (wide q) (high q)) 1 0)
+code-as q = sym (code-is q _ _ refl refl _ _ refl refl)
 
 abbrev Codes : Bool → Bool → ℕ → Type 0
 Codes s b c = ((c ≡ 12) ↔ (s ≡ true)) × ((c ≡ 1) ↔ ((s ≡ false) × (b ≡ true))) × ((c ≡ 0) ↔ ((s ≡ false) × (b ≡ false)))
 
+never : {A B : Type 0} → (A → ⊥) → (B → ⊥) → A ↔ B
+never f g = (λ a. absurd (f a), λ b. absurd (g b))
+
 codes : (s b : Bool) → Codes s b (cond s 12 (cond b 1 0))
-codes true b = (
-  (λ e. refl, λ e. refl),
-  (λ e. absurd (omega arith), λ e. absurd (true≢false (e .0))),
-  (λ e. absurd (omega arith), λ e. absurd (true≢false (e .0))),
-)
-codes false true = (
-  (λ e. absurd (omega arith), λ e. absurd (false≢true e)),
-  (λ e. (refl, refl), λ e. refl),
-  (λ e. absurd (omega arith), λ e. absurd (true≢false (e .1))),
-)
-codes false false = (
-  (λ e. absurd (omega arith), λ e. absurd (false≢true e)),
-  (λ e. absurd (omega arith), λ e. absurd (false≢true (e .1))),
-  (λ e. (refl, refl), λ e. refl),
-)
+codes true b = ((λ e. refl, λ e. refl), never (λ e. omega arith) (λ e. true≢false (e .0)), never (λ e. omega arith) (λ e. true≢false (e .0)))
+codes false true = (never (λ e. omega arith) false≢true, (λ e. (refl, refl), λ e. refl), never (λ e. omega arith) (λ e. true≢false (e .1)))
+codes false false = (never (λ e. omega arith) false≢true, never (λ e. omega arith) (λ e. false≢true (e .1)), (λ e. (refl, refl), λ e. refl))
 
 module _ (q : List ℕ) (z : Kept) (op : operation q ≡ 5) where
   pub clear-code : codeIn (answerTo q z) ≡ clearRecordCode q
-  clear-code = go (ℕ-discrete (clearRecordCode q) 0)
-    where
-      go : Dec (clearRecordCode q ≡ 0) → codeIn (answerTo q z) ≡ clearRecordCode q
-      go (yes e) = ap codeOf (clear-done q z op e .1) ∙ sym e
-      go (no ne) = ap codeOf (clear-refused q z op ne .1)
+  clear-code = elim (ℕ-discrete (clearRecordCode q) 0) [ yes e ↦ ap codeOf (clear-done q z op e .1) ∙ sym e | no ne ↦ ap codeOf (clear-refused q z op ne .1) ]
 
   pub clear-codes : Codes (strayClear q) (badSize (wide q) (high q)) (codeIn (answerTo q z))
   clear-codes = subst⁻¹ (Codes (strayClear q) (badSize (wide q) (high q))) (clear-code ∙ code-as q) (codes (strayClear q) (badSize (wide q) (high q)))
@@ -87,25 +72,20 @@ module _ (q : List ℕ) (z : Kept) where
   made : AcceptedClear q → nextRecord q z .columns ≡ 0 → ⊥
   made a e =
       let w : nextRecord q z .columns ≡ wide q = ap (λ (k : Kept). k .columns) (clear-done q z (a .0) (a .1) .0) in
-      omega (arith, w, e, good-size (wide q) (high q) (sizes-told q (a .1)) .0)
+      omega (arith, w, e, good-size (wide q) (high q) (sizes-told q (a .1)) .wide)
 
   -- and no record takes it away
   stays : (z .columns ≡ 0 → ⊥) → nextRecord q z .columns ≡ 0 → ⊥
-  stays n e = go (ℕ-discrete (operation q) 5) (ℕ-discrete (clearRecordCode q) 0)
-    where
-      go : Dec (operation q ≡ 5) → Dec (clearRecordCode q ≡ 0) → ⊥
-      go (yes p) (yes c) = made (p, c) e
-      go (yes p) (no c) = n (sym (ap (λ (k : Kept). k .columns) (clear-refused q z p c .0)) ∙ e)
-      go (no p) c = n (sym (ap (λ (k : Kept). k .columns) (on-surface q z p n .0)) ∙ e)
+  stays n e =
+      let same : nextRecord q z .columns ≡ z .columns → ⊥ = λ s. n (sym s ∙ e) in
+      elim (ℕ-discrete (operation q) 5) [
+        | yes p ↦ same (ap (λ (k : Kept). k .columns) (clear-refused q z p (λ c. made (p, c) e) .0))
+        | no p ↦ same (ap (λ (k : Kept). k .columns) (on-surface q z p n .0))
+      ]
 
   -- without one there is none, and what is kept stays
   none-made : z .columns ≡ 0 → (AcceptedClear q → ⊥) → nextRecord q z ≡ z
-  none-made n na = go (ℕ-discrete (operation q) 5) (ℕ-discrete (clearRecordCode q) 0)
-    where
-      go : Dec (operation q ≡ 5) → Dec (clearRecordCode q ≡ 0) → nextRecord q z ≡ z
-      go (yes p) (yes c) = absurd (na (p, c))
-      go (yes p) (no c) = clear-refused q z p c .0
-      go (no p) c = none-yet q z p n .0
+  none-made n na = elim (ℕ-discrete (operation q) 5) [ yes p ↦ clear-refused q z p (λ c. na (p, c)) .0 | no p ↦ none-yet q z p n .0 ]
 
   -- on a surface a request is not answered 8
   not-eight : (operation q ≡ 5 → ⊥) → (z .columns ≡ 0 → ⊥) → codeIn (answerTo q z) ≡ 8 → ⊥
@@ -121,17 +101,7 @@ module _ (b : List ℕ) (z : Kept) where
   -- THE ANSWER TO RECORD k stands in its own part of the answers
   pub answer-at : (n k : ℕ) → k < n → request (answersTo b z n) k ≡ answerTo (request b k) (afterRecords b z k)
   unfolding answersTo
-  answer-at zero k l = absurd (omega arith)
-  answer-at (suc n) k l =
-      let a = answerTo (request b n) (afterRecords b z n) in
-      ⊎-elim
-      (λ (q : k ≡ n).
-      let e : k ≡ n + 0 = omega arith in
-      ap (request (answersTo b z n ++ a)) e
-      ∙ request-right (answersTo b z n) a n (answers-long b z n) 0
-      ∙ ap (λ j. answerTo (request b j) (afterRecords b z j)) (sym q))
-      (λ (q : k < n). request-left (answersTo b z n) a n (answers-long b z n) k q ∙ answer-at n k q)
-      (eq-or-lt-of-le (le-of-suc-le-suc l))
+  answer-at = record-at (answersTo b z) (λ k. answerTo (request b k) (afterRecords b z k)) (answers-long b z) (λ n. refl)
 
   -- an accepted clear before record k: there is a surface
   surface-from : (k j : ℕ) → j < k → AcceptedClear (request b j) → afterRecords b z k .columns ≡ 0 → ⊥

@@ -5,7 +5,7 @@ use Prim.Native.Nat.{ℕ, zero, suc, _+_, _*_, _≤_}
 use native.Mathlib.Omega.{arith}
 use lib.ListN.{length, take, drop, length-drop, take-append-drop}
 use lib.Seq.{length-take-le}
-use Rattle.demands.proofs.Cuts.{request-left, request-right}
+use Rattle.demands.proofs.Blocks.{request-left, request-right}
 use Rattle.stream.specs.Records.{Kept, answerTo, nextRecord, afterRecords, answersTo}
 
 module _ (b c : List ℕ) (n : ℕ) (whole : length b ≡ 8 * n) (z : Kept) where
@@ -33,6 +33,15 @@ module _ (b c : List ℕ) (n : ℕ) (whole : length b ≡ 8 * n) (z : Kept) wher
       let e : n + suc k ≡ suc (n + k) = omega arith in
       ap (answersTo (b ++ c) z) e ∙ ap₂ _++_ (answers-right k) (ap₂ answerTo (request-right b c n whole k) (kept-right k)) ∙ append-assoc (answersTo b z n) _ _
 
+-- the first k records are those of the first 8·k bytes
+front : (b : List ℕ) (z : Kept) (k : ℕ) → 8 * k ≤ length b → (afterRecords b z k ≡ afterRecords (take (8 * k) b) z k) × (answersTo b z k ≡ answersTo (take (8 * k) b) z k)
+front b z k l =
+    let e = sym (take-append-drop (8 * k) b) in
+    let n = length-take-le (8 * k) b l in (
+      ap (λ x. afterRecords x z k) e ∙ kept-left (take (8 * k) b) (drop (8 * k) b) k n z k (omega arith),
+      ap (λ x. answersTo x z k) e ∙ answers-left (take (8 * k) b) (drop (8 * k) b) k n z k (omega arith),
+    )
+
 -- ---- m records of b behind the first k
 
 module _ (b : List ℕ) (k m : ℕ) (fit : 8 * k + 8 * m ≤ length b) where
@@ -45,35 +54,20 @@ module _ (b : List ℕ) (k m : ℕ) (fit : 8 * k + 8 * m ≤ length b) where
   first-long : length (take (8 * k) b) ≡ 8 * k
   first-long = length-take-le (8 * k) b (omega arith)
 
+  enough : 8 * m ≤ length behind
+  enough = omega (arith, length-drop (8 * k) b)
+
   pub part-is-long : length part ≡ 8 * m
-  part-is-long = length-take-le (8 * m) behind (omega (arith, length-drop (8 * k) b))
+  part-is-long = length-take-le (8 * m) behind enough
 
   module _ (z : Kept) where
-    kept-part-of : (d : List ℕ) → d ≡ part ++ drop (8 * m) behind → (y : Kept) → afterRecords d y m ≡ afterRecords part y m
-    kept-part-of d e y = ap (λ l. afterRecords l y m) e ∙ kept-left part (drop (8 * m) behind) m part-is-long y m (omega arith)
-
-    answers-part-of : (d : List ℕ) → d ≡ part ++ drop (8 * m) behind → (y : Kept) → answersTo d y m ≡ answersTo part y m
-    answers-part-of d e y = ap (λ l. answersTo l y m) e ∙ answers-left part (drop (8 * m) behind) m part-is-long y m (omega arith)
-
-    whole-is : take (8 * k) b ++ behind ≡ b
-    whole-is = take-append-drop (8 * k) b
-
-    behind-is : behind ≡ part ++ drop (8 * m) behind
-    behind-is = sym (take-append-drop (8 * m) behind)
-
-    first-kept : afterRecords b z k ≡ afterRecords (take (8 * k) b) z k
-    first-kept = ap (λ l. afterRecords l z k) (sym whole-is) ∙ kept-left (take (8 * k) b) behind k first-long z k (omega arith)
-
-    first-answers : answersTo b z k ≡ answersTo (take (8 * k) b) z k
-    first-answers = ap (λ l. answersTo l z k) (sym whole-is) ∙ answers-left (take (8 * k) b) behind k first-long z k (omega arith)
-
     pub kept-part : afterRecords b z (k + m) ≡ afterRecords part (afterRecords b z k) m
     kept-part =
-        ap (λ l. afterRecords l z (k + m)) (sym whole-is) ∙ kept-right (take (8 * k) b) behind k first-long z m ∙ kept-part-of behind behind-is (afterRecords (take (8 * k) b) z k)
-        ∙ ap (λ y. afterRecords part y m) (sym first-kept)
+        ap (λ l. afterRecords l z (k + m)) (sym (take-append-drop (8 * k) b)) ∙ kept-right (take (8 * k) b) behind k first-long z m
+        ∙ ap (λ y. afterRecords behind y m) (sym (front b z k (omega arith) .0)) ∙ front behind (afterRecords b z k) m enough .0
 
     pub answers-part : answersTo b z (k + m) ≡ answersTo b z k ++ answersTo part (afterRecords b z k) m
     answers-part =
-        ap (λ l. answersTo l z (k + m)) (sym whole-is) ∙ answers-right (take (8 * k) b) behind k first-long z m
-        ∙ ap (λ a. answersTo (take (8 * k) b) z k ++ a) (answers-part-of behind behind-is (afterRecords (take (8 * k) b) z k))
-        ∙ ap₂ (λ a y. a ++ answersTo part y m) (sym first-answers) (sym first-kept)
+        let f = front b z k (omega arith) in
+        ap (λ l. answersTo l z (k + m)) (sym (take-append-drop (8 * k) b)) ∙ answers-right (take (8 * k) b) behind k first-long z m
+        ∙ ap₂ (λ a y. a ++ answersTo behind y m) (sym (f .1)) (sym (f .0)) ∙ ap (λ a. answersTo b z k ++ a) (front behind (afterRecords b z k) m enough .1)

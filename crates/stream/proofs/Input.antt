@@ -1,14 +1,16 @@
 -- The input in reads of any lengths: served as if it had come in one. Assumes nothing.
-use mathlib.Core.Path.{_≡_, refl, sym, ap, _∙_}
+use mathlib.Core.Path.{_≡_, refl, sym, ap, ap₂, _∙_}
 use mathlib.Core.List.{List, [], _∷_, _++_, append-assoc, append-nil}
-use Prim.Native.Nat.{ℕ, _+_, _*_, _/_, _%_, _≤_}
+use Prim.Native.Nat.{ℕ, _+_, _-_, _*_, _/_, _%_, _≤_}
 use native.Mathlib.Omega.{arith}
+use lib.IntN.{ℤ}
 use lib.ListN.{length, take, drop, length-drop, take-append-drop}
 use lib.Seq.{length-take-le, take-at, drop-at, take-add, take-take, drop-append-add}
-use Rattle.demands.specs.Sessions.{joined}
-use Rattle.demands.proofs.Cuts.{requests-both}
-use Rattle.stream.specs.Records.{Kept, records, cut, carried, afterRecords, answersTo}
-use Rattle.stream.specs.Input.{Reading, begun, whole, rest, afterReads}
+use Rattle.demands.proofs.Blocks.{requests-both}
+use Rattle.stream.specs.Records.{Kept, kept, firstKept, records, cut, carried, afterRecords, answersTo}
+use Rattle.stream.specs.Promise.{Holds}
+use Rattle.stream.specs.Input.{inTurn, Reading, begun, whole, rest, served, afterReads, SoFar}
+use Rattle.stream.proofs.Laws.{held-is}
 use Rattle.stream.proofs.Cuts.{kept-right, answers-right}
 
 -- ---- the whole records of b, and the rest
@@ -45,15 +47,15 @@ carried-rest n b h =
 
 -- ---- bytes in front
 
-joined-front : (cs : List (List ℕ)) (a b : List ℕ) → joined (a ++ b) cs ≡ a ++ joined b cs
-unfolding joined
-joined-front [] a b = refl
-joined-front (c ∷ cs) a b = ap (λ l. joined l cs) (append-assoc a b c) ∙ joined-front cs a (b ++ c)
+inTurn-front : (cs : List (List ℕ)) (a b : List ℕ) → inTurn (a ++ b) cs ≡ a ++ inTurn b cs
+unfolding inTurn
+inTurn-front [] a b = refl
+inTurn-front (c ∷ cs) a b = ap (λ l. inTurn l cs) (append-assoc a b c) ∙ inTurn-front cs a (b ++ c)
 
 -- ---- the reads in turn
 
 -- all bytes at once, on what there was: z kept, a answered
-abbrev Once : List ℕ → Kept → List ℕ → Reading
+abbrev pub Once : List ℕ → Kept → List ℕ → Reading
 Once b z a = record { state = afterRecords b z (records b); answers = a ++ answersTo b z (records b); held = rest b }
 
 -- the whole records of b first, then what is behind them
@@ -75,23 +77,43 @@ once-cut b d c z a e =
       held = (ap (λ k. drop k (w ++ c)) em ∙ drop-append-add w c (8 * records c)) j;
     })
 
-pub reads-once : (cs : List (List ℕ)) (z : Kept) (a h : List ℕ) → records h ≡ 0 → afterReads cs (record { state = z; answers = a; held = h }) ≡ Once (joined h cs) z a
-unfolding afterReads joined afterRecords answersTo
+pub reads-once : (cs : List (List ℕ)) (z : Kept) (a h : List ℕ) → records h ≡ 0 → afterReads cs (record { state = z; answers = a; held = h }) ≡ Once (inTurn h cs) z a
+unfolding afterReads inTurn afterRecords answersTo
 reads-once [] z a h e =
     (λ j. record { state = z; answers = sym (append-nil a) j; held = h }) ∙ ap (λ k. record { state = afterRecords h z k; answers = a ++ answersTo h z k; held = drop (8 * k) h }) (sym e)
 reads-once (c ∷ cs) z a h e =
     let b = h ++ c in
     let w = whole b in
-    let d : joined b cs ≡ w ++ joined (rest b) cs = ap (λ l. joined l cs) (sym (take-append-drop (8 * records b) b)) ∙ joined-front cs w (rest b) in
-    reads-once cs (afterRecords w z (records w)) (a ++ answersTo w z (records w)) (rest b) (rest-short b) ∙ sym (once-cut b (joined b cs) (joined (rest b) cs) z a d)
+    let d : inTurn b cs ≡ w ++ inTurn (rest b) cs = ap (λ l. inTurn l cs) (sym (take-append-drop (8 * records b) b)) ∙ inTurn-front cs w (rest b) in
+    reads-once cs (afterRecords w z (records w)) (a ++ answersTo w z (records w)) (rest b) (rest-short b) ∙ sym (once-cut b (inTurn b cs) (inTurn (rest b) cs) z a d)
 
-pub reads-are : (cs : List (List ℕ)) (z : Kept) →
-    let b = joined [] cs in
-    let y = afterReads cs (begun z) in
-    (y .state ≡ afterRecords b z (records b)) × (y .answers ≡ answersTo b z (records b)) × (y .held ≡ rest b)
-reads-are cs z =
-    let e = reads-once cs z [] [] refl in
-    (ap (λ (y : Reading). y .state) e, ap (λ (y : Reading). y .answers) e, ap (λ (y : Reading). y .held) e)
+-- ---- the program's reads, from the first state on
 
-pub reads-same : (cs ds : List (List ℕ)) (z : Kept) → joined [] cs ≡ joined [] ds → afterReads cs (begun z) ≡ afterReads ds (begun z)
-reads-same cs ds z e = reads-once cs z [] [] refl ∙ ap (λ b. Once b z []) e ∙ sym (reads-once ds z [] [] refl)
+-- nothing is read yet
+pub so-far-none : {w h : ℕ} {s : List ℤ} {t : List ℕ} → Holds firstKept w h s t → SoFar w h s t []
+unfolding afterReads
+so-far-none r = record { reads = []; state = held-is firstKept _ _ _ _ r; held = refl }
+
+-- one read more
+reads-more : (cs : List (List ℕ)) (c : List ℕ) (y : Reading) → afterReads (cs ++ c ∷ []) y ≡ served (afterReads cs y .held ++ c) (afterReads cs y)
+unfolding afterReads
+reads-more [] c y = refl
+reads-more (d ∷ cs) c y = reads-more cs c (served (y .held ++ d) y)
+
+-- into the buffer b, behind the m bytes that are held in it, so that b′ has n; the whole records among these are served, and the rest carried
+pub so-far-more : {w h w′ h′ : ℕ} {s s′ : List ℤ} {t t′ : List ℕ} (m n k : ℕ) (b b′ d : List ℕ) →
+    SoFar w h s t (take m b) → m ≤ n → n ≤ length b′ → take m b′ ≡ take m b →
+    let q = take (8 * (n / 8)) b′ in
+    Holds (afterRecords q (kept w h s t) (records q)) w′ h′ s′ t′ → k ≡ n % 8 → d ≡ carried n b′ → SoFar w′ h′ s′ t′ (take k d)
+so-far-more m n k b b′ d p hm hn e r ek ed =
+    let c = take (n - m) (drop m b′) in
+    let y = afterReads (p .reads) (begun firstKept) in
+    let f : n ≡ m + (n - m) = omega arith in
+    let g : take n b′ ≡ y .held ++ c = ap (λ k. take k b′) f ∙ take-add m (n - m) b′ ∙ ap (λ l. l ++ c) (e ∙ p .held) in
+    let u = lent-whole n b′ hn ∙ ap whole g in
+    let v = sym (reads-more (p .reads) c (begun firstKept)) in
+    record {
+      reads = p .reads ++ c ∷ [];
+      state = held-is _ _ _ _ _ r ∙ (λ j. afterRecords (u j) (p .state j) (records (u j))) ∙ ap (λ (z : Reading). z .state) v;
+      held = ap₂ take ek ed ∙ carried-rest n b′ hn ∙ ap rest g ∙ ap (λ (z : Reading). z .held) v;
+    }

@@ -1,27 +1,27 @@
 -- One record, on plain values: what each of its four ways comes to, and what one that is served by itself leaves. Assumes nothing.
-use mathlib.Core.Path.{_≡_, refl, sym, ap, _∙_, subst⁻¹}
+use mathlib.Core.Path.{_≡_, refl, sym, ap, ap₂, _∙_, subst, subst⁻¹}
 use mathlib.Core.Bool.{Bool, true, false, not, _||_, cond}
 use mathlib.Core.Logic.{⊎-elim}
 use mathlib.Core.List.{List, [], _∷_}
-use Prim.Native.Nat.{ℕ, _+_, _*_, _≤_, _<_}
-use native.Mathlib.Nat.{mul-le-mul}
+use Prim.Native.Nat.{ℕ, _+_, _*_, _≤_}
 use native.Mathlib.Omega.{arith}
 use borrow.Author.Tests.{eqb-true, eq-eqb, ne-eqb}
 use lib.Dec.{eqb}
 use lib.IntN.{ℤ}
 use lib.ListN.{length, take, drop, length-append, length-drop, length-replicate}
 use lib.Seq.{take-at, length-take-le}
-use Rattle.rules.specs.Judging.{first}
+use Rattle.rules.specs.Judging.{first, NoneApplies}
+use Rattle.meaning.specs.Numbers.{above}
 use Rattle.rules.specs.Surface.{Standing, rect}
 use Rattle.rules.specs.Requests.{operation, ruleOf, idLow, idHigh, wide, high, byte6, byte7, zeros, answerOf}
 use Rattle.rules.specs.Calls.{badSize, badTable, sizeLines, clearLines, clearCode, clearedWeights, clearedTable}
 use Rattle.rules.specs.declared.Step.the-variants.{Refused, Done}
 use Rattle.rules.proofs.Tests.{or-which, or-neither, not-both}
-use Rattle.surface.proofs.CallLaws.{first-none}
-use Rattle.surface.proofs.SlotLaws.{good-size}
+use Rattle.meaning.proofs.First.{none-applies}
+use Rattle.meaning.proofs.Codes.{area}
 use Rattle.demands.proofs.Stands.{cleared-stands}
 use Rattle.requests.specs.Steps.{stray}
-use Rattle.requests.proofs.Lines.{stray-remove, first-here, first-past, first-end}
+use Rattle.requests.proofs.Lines.{stray-remove}
 use Rattle.stream.specs.Records.{Kept, kept, onto, isClear, strayClear, clearRecordLines, clearRecordCode, requestStep, afterRequest, recordStep, nextRecord}
 use Rattle.stream.specs.Promise.{Ready, Holds, Served, apart}
 
@@ -45,27 +45,10 @@ size-told W H n e =
     let right : eqb (W * H) (1 * (W * H)) ≡ true = eq-eqb (W * H) (1 * (W * H)) (omega arith) in
     ap (λ k. not (eqb k 0)) (e ∙ ap (λ b. first (sizeLines (not b) W H 2048)) right ∙ size-only W H) ∙ told (badSize W H)
 
--- the three ends of the chain; W and H are the bytes as they were read
-pub code-stray : (q : List ℕ) → strayClear q ≡ true → 12 ≡ clearRecordCode q
-unfolding clearRecordCode clearRecordLines
-code-stray q e = first-here 12 (strayClear q) _ e
-
-pub code-size : (q : List ℕ) (W H : ℕ) → strayClear q ≡ false → W ≡ wide q → H ≡ high q → badSize W H ≡ true → 1 ≡ clearRecordCode q
-unfolding clearRecordCode clearRecordLines
-code-size q W H e eW eH f = first-past 12 (strayClear q) _ 1 e (first-here 1 (badSize (wide q) (high q)) [] ((λ j. badSize (sym eW j) (sym eH j)) ∙ f))
-
-pub code-none : (q : List ℕ) (W H : ℕ) → strayClear q ≡ false → W ≡ wide q → H ≡ high q → badSize W H ≡ false → 0 ≡ clearRecordCode q
-unfolding clearRecordCode clearRecordLines
-code-none q W H e eW eH f = first-past 12 (strayClear q) _ 0 e (first-past 1 (badSize (wide q) (high q)) [] 0 ((λ j. badSize (sym eW j) (sym eH j)) ∙ f) first-end)
-
-pub byte-product : (w h : ℕ) → w < 256 → h < 256 → w * h ≤ 65536
-byte-product w h a b =
-    let x : w ≤ 256 = omega arith in
-    let y : h ≤ 256 = omega arith in
-    let m : w * h ≤ 256 * 256 = mul-le-mul x y in omega arith
-
-pub cells-most : (w h : ℕ) → w ≤ 64 → h ≤ 64 → w * h ≤ 4096
-cells-most w h a b = let m : w * h ≤ 64 * 64 = mul-le-mul a b in omega arith
+-- 12, then 1; W and H are the bytes as they were read
+pub code-is : (q : List ℕ) (W H : ℕ) → W ≡ wide q → H ≡ high q → (s b : Bool) → strayClear q ≡ s → badSize W H ≡ b → cond s 12 (cond b 1 0) ≡ clearRecordCode q
+unfolding clearRecordCode clearRecordLines first
+code-is q W H eW eH s b e f = ap₂ (λ x y. cond x 12 (cond y 1 0)) (sym e) (sym f ∙ ap₂ badSize eW eH)
 
 -- ---- a record by its four ways
 
@@ -90,13 +73,9 @@ module _ (q : List ℕ) (z : Kept) where
 
 -- ---- which are served by themselves
 
-pub apart-none : (w : ℕ) (q : List ℕ) → w ≡ 0 → true ≡ apart w q
+pub apart-is : (w : ℕ) (q : List ℕ) (b : Bool) → eqb w 0 ≡ b → b || isClear q ≡ apart w q
 unfolding apart
-apart-none w q e = sym (ap (λ b. b || isClear q) (eq-eqb w 0 e))
-
-pub apart-clear : (w : ℕ) (q : List ℕ) → (w ≡ 0 → ⊥) → isClear q ≡ apart w q
-unfolding apart
-apart-clear w q n = sym (ap (λ b. b || isClear q) (ne-eqb w 0 n))
+apart-is w q b e = sym (ap (λ x. x || isClear q) e)
 
 -- one that is no clear
 pub apart-other : (w : ℕ) (q : List ℕ) → apart w q ≡ true → (operation q ≡ 5 → ⊥) → w ≡ 0
@@ -125,55 +104,40 @@ held-is z w h s t r = λ j. kept (r .columns j) (r .rows j) (r .room j) (r .tabl
 
 -- ---- clear
 
-pub front-long : (n : ℕ) (p s : List ℤ) → length p ≡ n → n ≤ 4096 → length s ≡ 4096 → length (onto n p s) ≡ 4096
-front-long n p s e h l = simp (length-append, length-drop) (omega arith)
-
 -- the surface at the start of the room
 pub at-start : (n : ℕ) (p s : List ℤ) → length p ≡ n → take n (onto n p s) ≡ p
 at-start n p s e = take-at p (drop n s) n e
 
 pub sizes-told : (q : List ℕ) → clearRecordCode q ≡ 0 → badSize (wide q) (high q) ≡ false
-unfolding clearRecordCode clearRecordLines
-sizes-told q e = first-none (badSize (wide q) (high q)) 1 [] (omega arith) (first-none (strayClear q) 12 _ (omega arith) e .1) .0
+unfolding clearRecordCode clearRecordLines NoneApplies
+sizes-told q e = none-applies (clearRecordLines q) (unfold clearRecordLines above in refl) e .1 .0
 
-pub sizes-right : (q : List ℕ) → clearRecordCode q ≡ 0 → (wide q ≤ 64) × (high q ≤ 64)
-sizes-right q e = let g = good-size (wide q) (high q) (sizes-told q e) in (g .1, g .3)
+-- a surface that stands, put there
+pub front-ready : (w h : ℕ) (p s : List ℤ) (t : List ℕ) → Standing w h p t → length s ≡ 4096 → length t ≡ 2048 → Ready w h (onto (w * h) p s) t
+front-ready w h p s t d ls lt = record {
+  long = let m = area w h (d .sides) in simp (length-append, length-drop) (omega (arith, d .long));
+  slots = lt;
+  stands = λ _. subst⁻¹ (λ x. Standing w h x t) (at-start (w * h) p s (d .long)) d;
+}
 
 code-zero : (W H : ℕ) (t : List ℕ) → length t ≡ 2048 → badSize W H ≡ false → clearCode false W H t ≡ 0
 unfolding clearCode clearLines
 code-zero W H t l e = ap (λ n. first (sizeLines false W H n)) l ∙ size-only W H ∙ ap (λ b. cond b 1 0) e
 
-pub clear-ready : (q : List ℕ) (s : List ℤ) (t : List ℕ) → clearRecordCode q ≡ 0 → length s ≡ 4096 → length t ≡ 2048 →
-    Ready (wide q) (high q) (onto (wide q * high q) (clearedWeights (wide q) (high q)) s) (clearedTable t)
-clear-ready q s t e ls lt =
-    let W = wide q in
-    let H = high q in
-    let b = sizes-told q e in
-    let d : Standing W H (clearedWeights W H) (clearedTable t) = cleared-stands false W H t (code-zero W H t lt b) in
-    record {
-      long = front-long (W * H) (clearedWeights W H) s (d .long) (good-size W H b .4) ls;
-      slots = length-replicate (length t) 0 ∙ lt;
-      stands = λ _. subst⁻¹ (λ x. Standing W H x (clearedTable t)) (at-start (W * H) (clearedWeights W H) s (d .long)) d;
-    }
-
-pub clear-served : (q : List ℕ) (z : Kept) (s : List ℤ) (t a : List ℕ) → operation q ≡ 5 → clearRecordCode q ≡ 0 → length (z .room) ≡ 4096 → length (z .table) ≡ 2048 →
-    s ≡ onto (wide q * high q) (clearedWeights (wide q) (high q)) (z .room) → t ≡ clearedTable (z .table) → a ≡ answerOf q (Done 0 (rect 0 0 (wide q) (high q))) →
-    Served q z (wide q) (high q) s t a
-clear-served q z s t a p e ls lt es et ea =
-    let d = clear-done q z p e in
-    record {
-      holds = held (nextRecord q z) (wide q) (high q) s t (d .0 ∙ (λ j. kept (wide q) (high q) (sym es j) (sym et j)));
-      answer = ea ∙ sym (ap (answerOf q) (d .1));
-      ready = subst⁻¹ (λ x. Ready (wide q) (high q) x t) es (subst⁻¹ (λ y. Ready (wide q) (high q) (onto (wide q * high q) (clearedWeights (wide q) (high q)) (z .room)) y) et (clear-ready q (z .room) (z .table) e ls lt));
-    }
-
--- the same with the sizes as the code reads them
-pub clear-served-at : (q : List ℕ) (z : Kept) (W H : ℕ) (s : List ℤ) (t a : List ℕ) → W ≡ wide q → H ≡ high q → operation q ≡ 5 → clearRecordCode q ≡ 0 →
+-- with the sizes as the code reads them
+pub clear-served : (q : List ℕ) (z : Kept) (W H : ℕ) (s : List ℤ) (t a : List ℕ) → W ≡ wide q → H ≡ high q → operation q ≡ 5 → clearRecordCode q ≡ 0 →
     length (z .room) ≡ 4096 → length (z .table) ≡ 2048 → s ≡ onto (W * H) (clearedWeights W H) (z .room) → t ≡ clearedTable (z .table) →
     a ≡ answerOf q (Done 0 (rect 0 0 (wide q) (high q))) → Served q z W H s t a
-clear-served-at q z W H s t a eW eH p e ls lt es et ea =
-    let es′ : s ≡ onto (wide q * high q) (clearedWeights (wide q) (high q)) (z .room) = es ∙ (λ j. onto (eW j * eH j) (clearedWeights (eW j) (eH j)) (z .room)) in
-    subst⁻¹ (λ x. Served q z x H s t a) eW (subst⁻¹ (λ y. Served q z (wide q) y s t a) eH (clear-served q z s t a p e ls lt es′ et ea))
+clear-served q z W H s t a eW eH p e ls lt es et ea =
+    let d = clear-done q z p e in
+    let b = ap₂ badSize eW eH ∙ sizes-told q e in
+    let r = front-ready W H (clearedWeights W H) (z .room) (clearedTable (z .table)) (cleared-stands false W H (z .table) (code-zero W H (z .table) lt b)) ls (length-replicate (length (z .table)) 0 ∙ lt) in
+    let m : kept W H (onto (W * H) (clearedWeights W H) (z .room)) (clearedTable (z .table)) ≡ kept W H s t = λ j. kept W H (sym es j) (sym et j) in
+    record {
+      holds = held (nextRecord q z) W H s t (d .0 ∙ (λ j. kept (sym eW j) (sym eH j) (onto (sym eW j * sym eH j) (clearedWeights (sym eW j) (sym eH j)) (z .room)) (clearedTable (z .table))) ∙ m);
+      answer = ea ∙ sym (ap (answerOf q) (d .1));
+      ready = subst (λ (k : Kept). Ready W H (k .room) (k .table)) m r;
+    }
 
 -- what is kept stays, and the answer is a refusal
 pub refused-served : (q : List ℕ) (w h : ℕ) (s : List ℤ) (t a : List ℕ) (c : ℕ) → let z = kept w h s t in nextRecord q z ≡ z → recordStep q z ≡ Refused c → Ready w h s t →
@@ -185,5 +149,5 @@ refused-served q w h s t a c e f r ea = record { holds = held (nextRecord q (kep
 pub fits-room : (w h : ℕ) (s : List ℤ) (t : List ℕ) → Ready w h s t → (w ≡ 0 → ⊥) → (w * h ≤ 4096) × (w * h ≤ length s) × (w * h ≡ length (take (w * h) s))
 fits-room w h s t r n =
     let d = r .stands n in
-    let m = cells-most w h (d .widest) (d .highest) in
+    let m = area w h (d .sides) in
     let l : w * h ≤ length s = omega (arith, r .long) in (m, l, sym (length-take-le (w * h) s l))

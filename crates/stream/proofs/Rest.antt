@@ -12,11 +12,11 @@ use lib.Seq.{paste, paste-zero, paste-suc, drop-paste, length-paste, getD-drop}
 use Rattle.rules.specs.Surface.{Standing, occupied}
 use Rattle.rules.specs.Empties.{corners}
 use Rattle.rules.specs.Calls.{entriesOf, shortRoom, resultOf, roomAfter}
+use Rattle.meaning.proofs.Codes.{area}
 use Rattle.meaning.proofs.Theorems.{list-few}
 use Rattle.listing.specs.Listed.{listedResult, listedRoom}
 use Rattle.stream.specs.Records.{kept, carried}
 use Rattle.stream.specs.Promise.{Ready, ListedBy}
-use Rattle.stream.proofs.Laws.{cells-most}
 
 -- ---- the bytes that are left over go to the start, the first i of them
 
@@ -60,7 +60,7 @@ listed-none w h s t room e = let f = eq-eqb w 0 e in record { entries = rw f; co
 takes : (W H : ℕ) (s : List ℤ) (t room : List ℕ) → Standing W H s t → length room ≡ 32768 → (length (entriesOf W H t) ≤ 4096) × (shortRoom W H t room ≡ false)
 takes W H s t room d e =
     let a = list-few (occupied t) W H in
-    let b = cells-most W H (d .widest) (d .highest) in
+    let b = area W H (d .sides) in
     let m : length (entriesOf W H t) ≤ 4096 = omega (arith, a, b) in (m, le-ltb (length room) (8 * length (entriesOf W H t)) (omega (arith, m, e)))
 
 pub listed-some : (w h : ℕ) (s : List ℤ) (t room room′ : List ℕ) (r n k : ℕ) → Ready w h s t → (w ≡ 0 → ⊥) → length room ≡ 32768 → r ≡ listedResult w h t room → room′ ≡ listedRoom w h t room →

@@ -1,5 +1,5 @@
 -- THE STREAM, as theorems about the definitions: each under the sentence that it answers. Assumes nothing.
-use mathlib.Core.Path.{_≡_, sym, ap, _∙_}
+use mathlib.Core.Path.{_≡_, refl, sym, ap, _∙_}
 use mathlib.Core.Bool.{true, false}
 use mathlib.Core.Logic.{_↔_}
 use mathlib.Core.List.{List, [], _∷_, _++_}
@@ -12,13 +12,12 @@ use Rattle.rules.specs.Blocks.{started, request, after}
 use Rattle.rules.specs.Calls.{badSize, clearedWeights, clearedTable}
 use Rattle.rules.specs.declared.Step.the-variants.{Refused}
 use Rattle.demands.specs.History.{codeIn}
-use Rattle.demands.specs.Sessions.{joined}
 use Rattle.stream.specs.Records.{Kept, kept, onto, strayClear, clearRecordCode, answerTo, nextRecord, records, cut, carried, afterRecords, answersTo}
 use Rattle.stream.specs.Promise.{Ready, AcceptedClear, Requests, ServedAll, ListedBy}
-use Rattle.stream.specs.Input.{begun, whole, rest, afterReads}
+use Rattle.stream.specs.Input.{Reading, inTurn, begun, whole, rest, afterReads}
 use Rattle.stream.proofs.Laws.{clear-refused, clear-done, none-yet}
 use Rattle.stream.proofs.Clears.{clear-codes, clear-answer, answer-at, eight}
-use Rattle.stream.proofs.Input.{rest-long, lent-whole, carried-rest, reads-are, reads-same}
+use Rattle.stream.proofs.Input.{rest-long, lent-whole, carried-rest, Once, reads-once}
 use Rattle.stream.proofs.Cuts.{kept-right, answers-right}
 use Rattle.stream.proofs.Blocks.{block-kept, block-answered}
 
@@ -68,18 +67,20 @@ pieces-cut b c z e k = (kept-right b c (records b) e z k, answers-right b c (rec
 -- answered are as if all had come at once, and what is left over at the end are the bytes "after the last whole record"
 
 pub reads-cut : (cs : List (List ℕ)) (z : Kept) →
-    let b = joined [] cs in
+    let b = inTurn [] cs in
     let y = afterReads cs (begun z) in
     (y .state ≡ afterRecords b z (records b)) × (y .answers ≡ answersTo b z (records b)) × (y .held ≡ drop (8 * records b) b)
-reads-cut = reads-are
+reads-cut cs z =
+    let e = reads-once cs z [] [] refl in
+    (ap (λ (y : Reading). y .state) e, ap (λ (y : Reading). y .answers) e, ap (λ (y : Reading). y .held) e)
 
 -- "where bytes remain after the last whole record, a last line `cut N`, N being how many"
-pub reads-left : (cs : List (List ℕ)) (z : Kept) → length (afterReads cs (begun z) .held) ≡ cut (joined [] cs)
-reads-left cs z = ap length (reads-are cs z .2) ∙ rest-long (joined [] cs)
+pub reads-left : (cs : List (List ℕ)) (z : Kept) → length (afterReads cs (begun z) .held) ≡ cut (inTurn [] cs)
+reads-left cs z = ap length (reads-cut cs z .2) ∙ rest-long (inTurn [] cs)
 
 -- so two ways in which the same bytes come are alike
-pub reads-alike : (cs ds : List (List ℕ)) (z : Kept) → joined [] cs ≡ joined [] ds → afterReads cs (begun z) ≡ afterReads ds (begun z)
-reads-alike = reads-same
+pub reads-alike : (cs ds : List (List ℕ)) (z : Kept) → inTurn [] cs ≡ inTurn [] ds → afterReads cs (begun z) ≡ afterReads ds (begun z)
+reads-alike cs ds z e = reads-once cs z [] [] refl ∙ ap (λ b. Once b z []) e ∙ sym (reads-once ds z [] [] refl)
 
 -- where the first n bytes of a buffer b are held ++ read: the program lends its first 8·(n / 8) bytes to `serve`, and after `carry` its first n % 8 are held
 pub buffer-cut : (n : ℕ) (b : List ℕ) → n ≤ length b → (take (8 * (n / 8)) b ≡ whole (take n b)) × (take (n % 8) (carried n b) ≡ rest (take n b))

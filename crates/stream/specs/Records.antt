@@ -4,8 +4,8 @@ use mathlib.Core.Bool.{Bool, not, cond}
 use mathlib.Core.List.{List, [], _∷_, _++_}
 use Prim.Native.Nat.{ℕ, zero, suc, _*_, _/_, _%_}
 use lib.Dec.{eqb}
-use lib.IntN.{ℤ}
-use lib.ListN.{length, take, drop}
+use lib.IntN.{ℤ, pos}
+use lib.ListN.{length, take, drop, replicate}
 use Rattle.rules.specs.Tests.{all}
 use Rattle.rules.specs.Surface.{rect}
 use Rattle.rules.specs.Judging.{Line, _when_, first}
@@ -25,6 +25,11 @@ pub record Kept : Type 0 where
 
 abbrev pub kept : ℕ → ℕ → List ℤ → List ℕ → Kept
 kept W H s t = record { columns = W; rows = H; room = s; table = t }
+
+-- what is kept at the start. "keeps a table of 256 slots": all of them free. "Before the first accepted clear" there is no surface; the room takes the
+-- weights of the largest, 64×64
+abbrev pub firstKept : Kept
+firstKept = kept 0 0 (replicate 4096 (pos 0)) (replicate 2048 0)
 
 abbrev pub noSurface : Kept → Bool
 noSurface z = eqb (z .columns) 0

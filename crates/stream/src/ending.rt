@@ -5,7 +5,7 @@ ghost use lib.ListN.{length};
 ghost use Rattle.rules.specs.Calls.{resultOf};
 ghost use Rattle.stream.specs.Records.{kept};
 ghost use Rattle.stream.specs.Promise.{Ready, ListedBy};
-use listing::list_standing;
+use listing::list::list_standing;
 
 // How many entries and corners the list has.
 pub struct Listed {

@@ -9,8 +9,8 @@ ghost use Rattle.rules.specs.Calls.{badSize, clearedWeights, clearedTable};
 ghost use Rattle.stream.specs.Records.{kept, onto, strayClear, clearRecordCode};
 ghost use Rattle.stream.specs.Promise.{Ready, Served, apart};
 use requests::fields::byte;
-use surface::calls::clear_weights;
-use surface::calls::free_slots;
+use surface::clear::clear_weights;
+use surface::clear::free_slots;
 use surface::sizes::size_code;
 
 // W and H, 0 while there is no surface.

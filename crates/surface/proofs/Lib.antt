@@ -2,5 +2,5 @@
 pub mod SlotLaws
 pub mod MarkLaws
 pub mod RowLaws
-pub mod CallLaws
+pub mod ExamineLaws
 pub mod ClearLaws

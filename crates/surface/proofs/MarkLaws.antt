@@ -1,38 +1,37 @@
 -- Laws of the marks, and of the slots taken in turn. Nothing here speaks of a function's places. Assumes nothing.
 use mathlib.Core.Path.{_≡_, refl, sym, ap, ap₂, _∙_, subst}
-use mathlib.Core.Bool.{Bool, true, false, not, cond, _&&_, true≢false}
+use mathlib.Core.Bool.{Bool, true, false, not, _&&_, true≢false}
 use mathlib.Core.Logic.{_⊎_, inl, inr, ⊎-elim}
 use mathlib.Core.List.{List}
 use Prim.Native.Nat.{ℕ, zero, suc, _+_, _-_, _*_, _≤_, _<_}
-use native.Mathlib.Nat.{eq-or-lt-of-le, mul-le-mul-right, add-mul, le-mul-of-pos-right, mul-comm}
+use native.Mathlib.Nat.{eq-or-lt-of-le, mul-le-mul-right, mul-comm}
 use native.Mathlib.Omega.{arith}
 use borrow.Author.Count.{below-more}
-use borrow.Author.Tests.{not-true, not-false, le-leb, lt-ltb}
+use borrow.Author.Tests.{not-true, not-false, le-leb, lt-ltb, ltb-true}
 use lib.Arith.{digits-lt}
 use lib.Dec.{eqb}
 use lib.ListN.{length, getD, set, replicate, length-replicate, getD-replicate}
 use lib.Seq.{getD-set-same, getD-set-other}
 use lib.IntN.{ℤ, pos, negℤ}
 use Rattle.rules.specs.Tests.{every, any, total, count, least}
-use Rattle.rules.specs.Surface.{covers, slots, idOf, rectOf, freeSlot, usedSlot, soundSlot, holds, cell, remaining, modulesApart}
+use Rattle.rules.specs.Surface.{covers, slots, idOf, rectOf, freeSlot, usedSlot, soundSlot, holds, number, cell, remaining, modulesApart}
 use Rattle.rules.specs.declared.Rect.{Rect}
-use Rattle.rules.proofs.Tests.{and-left, and-right, and-both, four-and, or-left, or-right, fails, not-both, decide, every-at, every-yes, every-no, every-fails, any-at, any-yes, any-none, any-same, least-is, Least}
-use Rattle.meaning.proofs.Bound.{lt-or-le}
-use Rattle.meaning.proofs.Weights.{covers-within, Within, holds-covers}
+use Rattle.rules.specs.Requests.{hasId}
+use Rattle.rules.proofs.Tests.{lt-or-le, and-left, and-right, and-both, four-and, or-left, or-right, fails, not-both, decide, every-at, every-no, every-fails, any-at, any-yes, any-none, any-same, least-is}
+use Rattle.meaning.proofs.Weights.{covers-within, Within, number-some, holds-covers}
+use Rattle.meaning.proofs.Tables.{look-found, least-any}
+use Rattle.meaning.proofs.Stands.{Sound, told-sound, told-apart}
 use Rattle.cells.specs.Weight.{takenZ, untaken}
+use Rattle.cells.proofs.Laws.{row-before}
 use Rattle.surface.specs.Rows.{RowWritten}
 use Rattle.surface.specs.Slots.{Gathered, tableStands, Under}
-use Rattle.surface.specs.Marks.{Marked, markOf, MarkedTo, hasId, TakenTo, Takeable}
-use Rattle.surface.proofs.SlotLaws.{Sound, read-rect, means-sound, any-hit, any-miss, count-hit, count-miss, count-mono, falls-alike, falls-shared, table-stands}
+use Rattle.surface.specs.Marks.{Marked, markOf, MarkedTo, TakenTo, Takeable, SlotTaken}
+use Rattle.surface.proofs.SlotLaws.{read-rect, any-hit, any-miss, count-hit, count-miss, count-mono, falls-alike, falls-shared, table-stands}
 
 -- ---- a rectangle of marks
 
--- a cell of an earlier row comes before a later row's start
-row-before : (W r q c x : ℕ) → r < q → c < W → r * W + c < q * W + x
-row-before W r q c x h l = let m : (r + 1) * W ≤ q * W = mul-le-mul-right W (omega arith) in omega (arith, add-mul r 1 W)
-
-pub rect-none : (W : ℕ) (s : List ℤ) (x y n : ℕ) → Marked W s s x y n 0
-rect-none W s x y n = record {
+pub rect-none : (W : ℕ) (s : List ℤ) (x y n : ℕ) (g : ℕ → ℕ) → Marked W s s x y n 0 g
+rect-none W s x y n g = record {
   long = refl;
   inside = λ c r a b d e. absurd (omega arith);
   beside = λ c r a b. refl;
@@ -40,49 +39,40 @@ rect-none W s x y n = record {
   below = λ c r a b. refl;
 }
 
-pub rect-more : (W : ℕ) (s₀ s t : List ℤ) (x y n j : ℕ) → x + n ≤ W → Marked W s₀ s x y n j → RowWritten s t ((y + j) * W + x) n (λ k. negℤ (pos (n - k))) → Marked W s₀ t x y n (j + 1)
-rect-more W s₀ s t x y n j on m r = record {
+pub rect-more : (W : ℕ) (s₀ s t : List ℤ) (x y n j : ℕ) (g : ℕ → ℕ) → x + n ≤ W → Marked W s₀ s x y n j g → RowWritten s t ((y + j) * W + x) n (λ k. negℤ (pos (g (x + k)))) → Marked W s₀ t x y n (j + 1) g
+rect-more W s₀ s t x y n j g on m r = record {
   long = r .long ∙ m .long;
   inside = λ c q a b d e.
       ⊎-elim
-      (λ (z : q < y + j). otherRow c q (omega arith) (inl z) ∙ m .inside c q a b d z)
+      (λ (z : q < y + j). kept c q (omega arith) (λ e. absurd (omega arith)) ∙ m .inside c q a b d z)
       (λ (z : y + j ≤ q). let w : q ≡ y + j = omega arith in ap (cell W t c) w ∙ thisRow c a b)
       (lt-or-le q (y + j));
-  beside = λ c q a b. same c q a b ∙ m .beside c q a b;
-  above = λ c q a b. otherRow c q a (inl (omega arith)) ∙ m .above c q a b;
-  below = λ c q a b. otherRow c q a (inr (omega arith)) ∙ m .below c q a (omega arith);
+  beside = λ c q a b. kept c q a (λ _. b) ∙ m .beside c q a b;
+  above = λ c q a b. kept c q a (λ e. absurd (omega arith)) ∙ m .above c q a b;
+  below = λ c q a b. kept c q a (λ e. absurd (omega arith)) ∙ m .below c q a (omega arith);
 }
   where
     at : ℕ
     at = (y + j) * W + x
 
-    otherRow : (c q : ℕ) → c < W → (q < y + j) ⊎ (y + j < q) → cell W t c q ≡ cell W s c q
-    otherRow c q a (inl z) = r .before (q * W + c) (row-before W q (y + j) c x z a)
-    otherRow c q a (inr z) =
-        let k : (y + j + 1) * W ≤ q * W = mul-le-mul-right W (omega arith) in
-        r .after (q * W + c) (omega (arith, add-mul (y + j) 1 W))
-
-    thisRow : (c : ℕ) → x ≤ c → c < x + n → cell W t c (y + j) ≡ negℤ (pos (x + n - c))
-    thisRow c a b =
-        let e : (y + j) * W + c ≡ at + (c - x) = omega arith in
-        let f : n - (c - x) ≡ x + n - c = omega arith in
-        ap (λ k. getD t k (pos 0)) e ∙ r .inside (c - x) (omega arith) ∙ ap (λ k. negℤ (pos k)) f
-
-    -- a cell of this row on either side
-    sideRow : (c : ℕ) → (c < x) ⊎ (x + n ≤ c) → cell W t c (y + j) ≡ cell W s c (y + j)
-    sideRow c (inl z) = r .before ((y + j) * W + c) (omega arith)
-    sideRow c (inr z) = r .after ((y + j) * W + c) (omega arith)
-
-    same : (c q : ℕ) → c < W → (c < x) ⊎ (x + n ≤ c) → cell W t c q ≡ cell W s c q
-    same c q a b =
+    -- a cell of another row, or of this one on either side
+    kept : (c q : ℕ) → c < W → (q ≡ y + j → (c < x) ⊎ (x + n ≤ c)) → cell W t c q ≡ cell W s c q
+    kept c q a o =
         ⊎-elim
-        (λ (z : q < y + j). otherRow c q a (inl z))
+        (λ (z : q < y + j). r .before (q * W + c) (omega (arith, row-before W q (y + j) (c + 1) z (omega arith))))
         (λ (z : y + j ≤ q).
         ⊎-elim
-        (λ (w : y + j ≡ q). subst (λ k. cell W t c k ≡ cell W s c k) w (sideRow c b))
-        (λ (w : y + j < q). otherRow c q a (inr w))
+        (λ (w : y + j ≡ q). let e : (y + j) * W ≡ q * W = ap (λ k. k * W) w in
+        ⊎-elim (λ (b : c < x). r .before (q * W + c) (omega arith)) (λ (b : x + n ≤ c). r .after (q * W + c) (omega arith)) (o (sym w)))
+        (λ (w : y + j < q). r .after (q * W + c) (omega (arith, row-before W (y + j) q (x + n) w on)))
         (eq-or-lt-of-le z))
         (lt-or-le q (y + j))
+
+    thisRow : (c : ℕ) → x ≤ c → c < x + n → cell W t c (y + j) ≡ negℤ (pos (g c))
+    thisRow c a b =
+        let e : (y + j) * W + c ≡ at + (c - x) = omega arith in
+        let f : x + (c - x) ≡ c = omega arith in
+        ap (λ k. getD t k (pos 0)) e ∙ r .inside (c - x) (omega arith) ∙ ap (λ k. negℤ (pos (g k))) f
 
 -- ---- the mark of a cell
 
@@ -90,79 +80,46 @@ neg-taken : (n : ℕ) → 1 ≤ n → takenZ (negℤ (pos n)) ≡ true
 neg-taken zero h = absurd (omega arith)
 neg-taken (suc n) h = refl
 
+-- where there is one, the least is one of them
+least-here : (n : ℕ) (p : ℕ → Bool) → any n p ≡ true → (least n p < n) × (p (least n p) ≡ true)
+least-here n p e = let low : least n p < n = ltb-true _ _ (least-any n p ∙ e) in (low, least-is n p .here (omega arith))
+
 -- a marked cell is one that a module has, and its mark is negative
 pub mark-taken : (t : List ℕ) (n x y : ℕ) → any n (holds t x y) ≡ true → takenZ (markOf t n x y) ≡ true
 unfolding markOf remaining
 mark-taken t n x y e =
-    let w = any-at n (holds t x y) e in
-    let l = least-is n (holds t x y) in
     let k = least n (holds t x y) in
-    let low : k < n =
-    ⊎-elim
-    (λ (p : k < n). p)
-    (λ (p : n ≤ k). not-both (holds t x y (w .0)) (w .2) (l .before (w .0) (omega arith) (omega (arith, w .1))))
-    (lt-or-le k n) in
     let r = rectOf t k in
-    let i = covers-within r x y (holds-covers t x y k (l .here (omega arith))) in
-    rw e (neg-taken (r .x + r .w - x) (omega (arith, i .right)))
+    rw e (neg-taken (number k r x) (number-some k r x y (holds-covers t x y k (least-here n (holds t x y) e .1))))
 
 pub mark-open : (t : List ℕ) (n x y : ℕ) → any n (holds t x y) ≡ false → markOf t n x y ≡ pos 1
 unfolding markOf
 mark-open t n x y e = rw e
 
-taken-any : (t : List ℕ) (n x y : ℕ) → takenZ (markOf t n x y) ≡ true → any n (holds t x y) ≡ true
-taken-any t n x y e =
-    ⊎-elim (λ (p : any n (holds t x y) ≡ true). p) (λ (p : any n (holds t x y) ≡ false). not-both _ e (ap takenZ (mark-open t n x y p))) (decide (any n (holds t x y)))
-
-open-any : (t : List ℕ) (n x y : ℕ) → takenZ (markOf t n x y) ≡ false → any n (holds t x y) ≡ false
-open-any t n x y e = fails (any n (holds t x y)) (λ p. true≢false (sym (mark-taken t n x y p) ∙ e))
-
--- the least is one number, whoever finds it
-least-one : {a n : ℕ} {p : ℕ → Bool} {j k : ℕ} → Least a n p j → Least a n p k → k < a + n → j ≡ k
-least-one {a} {n} {p} {j} {k} u v h =
-    ⊎-elim
-    (λ (z : j < k). not-both (p j) (u .here (omega arith)) (v .before j (u .from) z))
-    (λ (z : k ≤ j). ⊎-elim (λ (w : k ≡ j). sym w) (λ (w : k < j). not-both (p k) (v .here h) (u .before k (v .from) w)) (eq-or-lt-of-le z))
-    (lt-or-le j k)
+mark-any : (t : List ℕ) (n x y : ℕ) → takenZ (markOf t n x y) ≡ any n (holds t x y)
+mark-any t n x y =
+    ⊎-elim (λ p. mark-taken t n x y p ∙ sym p) (λ p. ap takenZ (mark-open t n x y p) ∙ sym p) (decide (any n (holds t x y)))
 
 -- slot n does not have the cell: its mark stays
 mark-stays : (t : List ℕ) (n x y : ℕ) → holds t x y n ≡ false → markOf t (n + 1) x y ≡ markOf t n x y
 unfolding markOf
-mark-stays t n x y e = go (any n (holds t x y)) refl
-  where
-    p : ℕ → Bool
-    p = holds t x y
-
-    go : (b : Bool) → any n p ≡ b → cond (any (n + 1) p) (remaining t (least (n + 1) p) x) (pos 1) ≡ cond (any n p) (remaining t (least n p) x) (pos 1)
-    go false q = rw (any-miss n p e, q)
-    go true q =
-        let l = least-is n p in
-        let m = least-is (n + 1) p in
-        let w = any-at n p q in
-        let low : least n p < n =
-        ⊎-elim
-        (λ (z : least n p < n). z)
-        (λ (z : n ≤ least n p). not-both (p (w .0)) (w .2) (l .before (w .0) (omega arith) (omega (arith, w .1))))
-        (lt-or-le (least n p) n) in
-        let v : Least 0 (n + 1) p (least n p) = record { from = omega arith; upto = omega arith; before = l .before; here = λ z. l .here (omega arith) } in
-        let s : least (n + 1) p ≡ least n p = least-one m v (omega arith) in
-        rw (any-miss n p e, q) (ap (λ k. remaining t k x) s)
+mark-stays t n x y e =
+    let p = holds t x y in
+    ⊎-elim
+    (λ (q : any n p ≡ true).
+    let h = least-here n p q in
+    let s = look-found (n + 1) p (least n p) (record { upto = omega (arith, h .0); none = λ j l. least-is n p .before j (omega arith) l }) (omega (arith, h .0)) refl (h .1) in
+    rw (any-miss n p e, q) (ap (λ k. remaining t k x) (sym s)))
+    (λ (q : any n p ≡ false). rw (any-miss n p e, q))
+    (decide (any n p))
 
 -- slot n is the first that has the cell: its number is the mark
 mark-new : (t : List ℕ) (n x y : ℕ) → holds t x y n ≡ true → any n (holds t x y) ≡ false → markOf t (n + 1) x y ≡ remaining t n x
 unfolding markOf
 mark-new t n x y e q =
     let p = holds t x y in
-    let v : Least 0 (n + 1) p n = record { from = omega arith; upto = omega arith; before = λ j a b. any-none n p q j b; here = λ z. e } in
-    let s : least (n + 1) p ≡ n = least-one (least-is (n + 1) p) v (omega arith) in
-    rw (any-yes (n + 1) p n (omega arith) e) (ap (λ k. remaining t k x) s)
-
--- ---- a rectangle's row, in numbers
-pub row-in : (w x y mw mh j n : ℕ) → x + mw ≤ w → (y + mh) * w ≤ n → 1 ≤ w → j < mh → ((y + j) * w + x + mw ≤ n) × (y + j ≤ n)
-row-in w x y mw mh j n hx hn hw hj =
-    let a : (y + j + 1) * w ≤ (y + mh) * w = mul-le-mul-right w (omega arith) in
-    let b : y + mh ≤ (y + mh) * w = le-mul-of-pos-right (y + mh) hw in
-    (omega (arith, add-mul (y + j) 1 w), omega arith)
+    let s = look-found (n + 1) p n (record { upto = omega arith; none = any-none n p q }) (omega arith) refl e in
+    rw (any-hit n p e) (ap (λ k. remaining t k x) (sym s))
 
 -- ---- one slot more
 
@@ -208,27 +165,31 @@ taken-in W m r e =
       taken = not-false _ (i .2);
     }
 
--- in the rectangle, or on one of its sides
-which : (r : Rect) (x y : ℕ) → Within r x y ⊎ (((x < r .x) ⊎ (r .x + r .w ≤ x)) ⊎ ((y < r .y) ⊎ (r .y + r .h ≤ y)))
-which r x y =
+-- a cell outside the rectangle is on one of its sides, and stays
+outside : (W : ℕ) (r : Rect) (s₀ s : List ℤ) (g : ℕ → ℕ) → Marked W s₀ s (r .x) (r .y) (r .w) (r .h) g → (x y : ℕ) → x < W → (Within r x y → ⊥) → cell W s x y ≡ cell W s₀ x y
+outside W r s₀ s g m x y l out =
     ⊎-elim
-    (λ (a : x < r .x). inr (inl (inl a)))
+    (λ (a : x < r .x). m .beside x y l (inl a))
     (λ (a : r .x ≤ x).
     ⊎-elim
     (λ (b : x < r .x + r .w).
     ⊎-elim
-    (λ (c : y < r .y). inr (inr (inl c)))
+    (λ (c : y < r .y). m .above x y l c)
     (λ (c : r .y ≤ y).
     ⊎-elim
-    (λ (d : y < r .y + r .h). inl (record { left = a; right = b; top = c; bottom = d }))
-    (λ (d : r .y + r .h ≤ y). inr (inr (inr d)))
+    (λ (d : y < r .y + r .h). absurd (out (record { left = a; right = b; top = c; bottom = d })))
+    (λ (d : r .y + r .h ≤ y). m .below x y l d)
     (lt-or-le y (r .y + r .h)))
     (lt-or-le y (r .y)))
-    (λ (b : r .x + r .w ≤ x). inr (inl (inr b)))
+    (λ (b : r .x + r .w ≤ x). m .beside x y l (inr b))
     (lt-or-le x (r .x + r .w)))
     (lt-or-le x (r .x))
 
 module _ (W H : ℕ) (t : List ℕ) (n : ℕ) (m : List ℤ) (d : MarkedTo W H t n m) where
+  -- a cell is marked where an earlier module has it
+  marked-any : (x y : ℕ) → x < W → y < H → any n (holds t x y) ≡ takenZ (cell W m x y)
+  marked-any x y a b = sym (ap takenZ (d .cells x y a b) ∙ mark-any t n x y)
+
   slot-skip : freeSlot t n ≡ true → MarkedTo W H t (n + 1) m
   slot-skip e = record {
     long = d .long;
@@ -238,19 +199,18 @@ module _ (W H : ℕ) (t : List ℕ) (n : ℕ) (m : List ℤ) (d : MarkedTo W H t
   }
 
   module _ (e : freeSlot t n ≡ false) where
-    -- where the module is, its slot's mark is asked for; where it isn't, the old
-    inside-holds : (x y : ℕ) → Within (rectOf t n) x y → holds t x y n ≡ true
-    inside-holds x y w = used-holds t n x y e ∙ cover (rectOf t n) x y w
-
-    outside-holds : (x y : ℕ) → (Within (rectOf t n) x y → ⊥) → holds t x y n ≡ false
-    outside-holds x y f = used-holds t n x y e ∙ fails _ (λ q. f (covers-within (rectOf t n) x y q))
-
     -- A MODULE THAT SHARES NO CELL WITH THE EARLIER ONES IS MARKED
     slot-new : (m′ : List ℤ) → untaken W m (rectOf t n .x) (rectOf t n .y) (rectOf t n .w) (rectOf t n .h) ≡ true →
-        Marked W m m′ (rectOf t n .x) (rectOf t n .y) (rectOf t n .w) (rectOf t n .h) → MarkedTo W H t (n + 1) m′
+        Marked W m m′ (rectOf t n .x) (rectOf t n .y) (rectOf t n .w) (rectOf t n .h) (number n (rectOf t n)) → MarkedTo W H t (n + 1) m′
     slot-new m′ u w = record {
       long = w .long ∙ d .long;
-      cells = λ x y a b. here x y a b (which r x y);
+      cells = λ x y a b.
+          ⊎-elim
+          (λ (c : covers r x y ≡ true). let i = covers-within r x y c in
+          w .inside x y (i .left) (i .right) (i .top) (i .bottom) ∙ held x ∙ sym (mark-new t n x y (used-holds t n x y e ∙ c) (nobody x y a b i)))
+          (λ (c : covers r x y ≡ false).
+          outside W r m m′ _ w x y a (λ i. not-both (covers r x y) (cover r x y i) c) ∙ d .cells x y a b ∙ sym (mark-stays t n x y (used-holds t n x y e ∙ c)))
+          (decide (covers r x y));
       apart = λ x y a b. below-more (λ j. (i : ℕ) → i < j → (holds t x y i && holds t x y j) ≡ false) n (d .apart x y a b)
           (λ i l. fails _ (λ q.
           let c = covers-within r x y (holds-covers t x y n (and-right (holds t x y i) (holds t x y n) q)) in
@@ -261,43 +221,24 @@ module _ (W H : ℕ) (t : List ℕ) (n : ℕ) (m : List ℤ) (d : MarkedTo W H t
         r = rectOf t n
 
         nobody : (x y : ℕ) → x < W → y < H → Within r x y → any n (holds t x y) ≡ false
-        nobody x y a b w = open-any t n x y (ap takenZ (sym (d .cells x y a b)) ∙ untaken-at W m r u x y w)
+        nobody x y a b w = marked-any x y a b ∙ untaken-at W m r u x y w
 
-        old : (x y : ℕ) → x < W → y < H → (Within r x y → ⊥) → cell W m′ x y ≡ cell W m x y → cell W m′ x y ≡ markOf t (n + 1) x y
-        old x y a b f q = q ∙ d .cells x y a b ∙ sym (mark-stays t n x y (outside-holds x y f))
-
-        here : (x y : ℕ) → x < W → y < H → Within r x y ⊎ (((x < r .x) ⊎ (r .x + r .w ≤ x)) ⊎ ((y < r .y) ⊎ (r .y + r .h ≤ y))) → cell W m′ x y ≡ markOf t (n + 1) x y
-        here x y a b (inl c) =
-            w .inside x y (c .left) (c .right) (c .top) (c .bottom) ∙ number ∙ sym (mark-new t n x y (inside-holds x y c) (nobody x y a b c))
-          where
-            number : negℤ (pos (r .x + r .w - x)) ≡ remaining t n x
-            number = unfold remaining in refl
-        here x y a b (inr (inl z)) = old x y a b (λ c. beside x y c z) (w .beside x y a z)
-          where
-            beside : (x y : ℕ) → Within r x y → (x < r .x) ⊎ (r .x + r .w ≤ x) → ⊥
-            beside x y c (inl l) = omega (arith, c .left)
-            beside x y c (inr l) = omega (arith, c .right)
-        here x y a b (inr (inr (inl z))) = old x y a b (λ c. omega (arith, c .top)) (w .above x y a z)
-        here x y a b (inr (inr (inr z))) = old x y a b (λ c. omega (arith, c .bottom)) (w .below x y a z)
+        held : (x : ℕ) → negℤ (pos (number n r x)) ≡ remaining t n x
+        held x = unfold remaining in refl
 
     -- A MODULE ONE OF WHOSE CELLS IS MARKED SHARES IT
     slot-shared : n < slots t → Sound W H t n → untaken W m (rectOf t n .x) (rectOf t n .y) (rectOf t n .w) (rectOf t n .h) ≡ false → modulesApart W H t ≡ false
     unfolding modulesApart
     slot-shared l s u =
         let c = taken-in W m (rectOf t n) u in
-        let a : c .x < W = omega (arith, c .within .right, s .columns) in
-        let b : c .y < H = omega (arith, c .within .bottom, s .lines) in
-        let w = any-at n (holds t (c .x) (c .y)) (taken-any t n (c .x) (c .y) (ap takenZ (sym (d .cells (c .x) (c .y) a b)) ∙ c .taken)) in
+        let a : c .x < W = omega (arith, c .within .right, s .place .columns) in
+        let b : c .y < H = omega (arith, c .within .bottom, s .place .lines) in
+        let w = any-at n (holds t (c .x) (c .y)) (marked-any (c .x) (c .y) a b ∙ c .taken) in
         every-no H _ (c .y) b
         (every-no W _ (c .x) a
         (every-no (slots t) _ n l
         (every-no n _ (w .0) (w .1)
-        (ap not (and-both (w .2) (inside-holds (c .x) (c .y) (c .within)))))))
-
-all-apart : (W H : ℕ) (t : List ℕ) (m : List ℤ) → MarkedTo W H t (slots t) m → modulesApart W H t ≡ true
-unfolding modulesApart
-all-apart W H t m d =
-    every-yes H _ (λ y b. every-yes W _ (λ x a. every-yes (slots t) _ (λ j l. every-yes j _ (λ i q. ap not (d .apart x y a b j l i q)))))
+        (ap not (and-both (w .2) (used-holds t n (c .x) (c .y) e ∙ cover (rectOf t n) (c .x) (c .y) (c .within)))))))
 
 -- ---- the slots taken in turn
 
@@ -320,6 +261,10 @@ take-none W H t ids m e = record {
   noted = λ id. refl;
   marked = blank W H t m e;
 }
+
+-- where the surface does not stand, a slot is refused
+pub slot-falls : {W H : ℕ} {t : List ℕ} {i : ℕ} {ids : List ℕ} {n : ℕ} {m : List ℤ} → tableStands W H t ≡ false → SlotTaken W H t i ids n m 0
+slot-falls e = record { more = λ ne. absurd (ne refl); under = λ ne. absurd (ne refl); falls = λ _. e }
 
 -- taken as far as slot `at`
 pub record Reached (W H : ℕ) (t ids : List ℕ) (n : ℕ) (m : List ℤ) : Type 0 where
@@ -357,8 +302,8 @@ module _ (W H : ℕ) (t : List ℕ) where
       pub take-on : (r .x + r .w ≤ W) × ((r .y + r .h) * W ≤ length m)
       take-on =
           let e = read-rect q in
-          let l : (r .y + r .h) * W ≤ H * W = mul-le-mul-right W (omega (arith, e, s .lines)) in
-          (omega (arith, e, s .columns), omega (arith, mul-comm W H, a .taken .marked .long))
+          let l : (r .y + r .h) * W ≤ H * W = mul-le-mul-right W (omega (arith, e, s .place .lines)) in
+          (omega (arith, e, s .place .columns), omega (arith, mul-comm W H, a .taken .marked .long))
 
       pub take-shared : untaken W m (r .x) (r .y) (r .w) (r .h) ≡ false → tableStands W H t ≡ false
       take-shared e =
@@ -367,16 +312,16 @@ module _ (W H : ℕ) (t : List ℕ) where
 
       -- A USED SLOT THAT IS SOUND, WITH A NEW ID AND CELLS OF ITS OWN, IS TAKEN
       pub take-more : any n (λ k. eqb (getD ids k 0) id) ≡ false → untaken W m (r .x) (r .y) (r .w) (r .h) ≡ true →
-          (m′ : List ℤ) → Marked W m m′ (r .x) (r .y) (r .w) (r .h) → TakenTo W H t (i + 1) (set ids n id) (n + 1) m′
+          (m′ : List ℤ) → Marked W m m′ (r .x) (r .y) (r .w) (r .h) (number i r) → TakenTo W H t (i + 1) (set ids n id) (n + 1) m′
       take-more new u m′ w =
           let k = a .taken in
           record {
             many = ap (λ c. c + 1) (k .many) ∙ sym (count-hit i (usedSlot t) (a .used));
-            sound = below-more _ i (k .sound) (or-right (freeSlot t i) (soundSlot W H t i) (means-sound W H t i s));
+            sound = below-more _ i (k .sound) (or-right (freeSlot t i) (soundSlot W H t i) (told-sound W H t i s));
             differ = below-more (λ j. usedSlot t j ≡ true → any j (hasId t (idOf t j)) ≡ false) i (k .differ) (λ v. ap (λ c. any i (hasId t c)) (sym p) ∙ sym (k .noted id) ∙ new);
             noted = noted;
             marked = slot-new W H t i m (k .marked) used-is m′ (ap (λ (r : Rect). untaken W m (r .x) (r .y) (r .w) (r .h)) (sym q) ∙ u)
-                (subst (λ (r : Rect). Marked W m m′ (r .x) (r .y) (r .w) (r .h)) q w);
+                (subst (λ (r : Rect). Marked W m m′ (r .x) (r .y) (r .w) (r .h) (number i r)) q w);
           }
         where
           -- the ids there were are found as before
@@ -427,4 +372,4 @@ module _ (W H : ℕ) (t : List ℕ) where
     take-last e d = reach (d .at) (slots t) (d .low) (d .taken) e
 
   pub take-all : (ids : List ℕ) (n : ℕ) (m : List ℤ) → TakenTo W H t (slots t) ids n m → tableStands W H t ≡ true
-  take-all ids n m k = table-stands W H t (k .sound) (k .differ) (all-apart W H t m (k .marked))
+  take-all ids n m k = table-stands W H t (k .sound) (k .differ) (told-apart W H t (λ x y a b i j l h. k .marked .apart x y a b j h i l))

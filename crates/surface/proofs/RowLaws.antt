@@ -1,21 +1,24 @@
 -- Laws of rows of weights: written by a loop, counted on from the marks. Assumes nothing.
 use mathlib.Core.Path.{_≡_, refl, sym, ap, ap₂, _∙_, subst}
-use mathlib.Core.Bool.{true, false, false≢true}
+use mathlib.Core.Bool.{true, false}
 use mathlib.Core.Logic.{⊎-elim}
 use mathlib.Core.List.{List}
 use Prim.Native.Nat.{ℕ, zero, suc, _+_, _-_, _*_, _≤_, _<_}
-use native.Mathlib.Nat.{suc-mul, eq-or-lt-of-le, mul-le-mul-right, add-mul, mul-comm}
+use native.Mathlib.Nat.{suc-mul, eq-or-lt-of-le, mul-le-mul-right, mul-comm}
 use native.Mathlib.Omega.{arith}
 use borrow.Author.Count.{below-more}
-use lib.Dec.{T}
-use lib.IntN.{ℤ, pos, negsuc, _+ℤ_, pos-+ℤ-pos}
+use borrow.Author.Tests.{ltb-true}
+use lib.Dec.{ltb}
+use lib.IntN.{ℤ, pos, _+ℤ_, pos-+ℤ-pos}
 use lib.ListN.{length, getD, set, length-set}
 use lib.Seq.{getD-set-same, getD-set-other}
-use lib.Signed.{ltZ}
+use mir.Syntax.{w16}
+use mir.Val.{SFits}
 use Rattle.rules.specs.Surface.{slots, cell, occupied, holder, upwards, weight, fresh}
 use Rattle.rules.proofs.Tests.{decide}
 use Rattle.meaning.proofs.Weights.{weight-occupied, weight-empty, upwards-taken, fresh-of}
 use Rattle.cells.specs.Weight.{takenZ, countOf}
+use Rattle.cells.proofs.Laws.{taken-test, count-neg, row-before}
 use Rattle.surface.specs.Rows.{RowWritten, countedOn, countedAt, CountedTo}
 use Rattle.surface.specs.Marks.{markOf, MarkedTo}
 use Rattle.surface.proofs.MarkLaws.{mark-taken, mark-open}
@@ -39,14 +42,13 @@ row-more s₀ s t at i f v r lt e q =
 
 -- row y ends within the surface
 pub row-end : (w h y : ℕ) → y < h → y * w + w ≤ w * h
-row-end w h y lt = let m : (y + 1) * w ≤ h * w = mul-le-mul-right w (omega arith) in omega (arith, add-mul y 1 w, mul-comm w h)
+row-end w h y lt = omega (arith, row-before w y h w lt (omega arith), mul-comm w h)
 
 -- ---- one cell counted
 
--- a number not below 0 is its count
-pub count-is : (a : ℤ) → ltZ a (pos 0) ≡ false → a ≡ pos (countOf a)
-count-is (pos n) e = refl
-count-is (negsuc n) e = absurd (subst T e tt)
+-- a count on a column and a little more: far from the end of 16 bits
+pub few-more : (z : ℤ) (k n : ℕ) → z ≡ pos n → n ≤ 64 → ltb k 64 ≡ true → SFits w16 (z +ℤ pos k)
+few-more z k n e h l = rw e (subst (SFits w16) (sym (pos-+ℤ-pos n k)) (record { sfits = omega (arith, ltb-true k 64 l) }))
 
 pub one-more : (n : ℕ) → pos n +ℤ pos 1 ≡ pos (suc n)
 one-more n = pos-+ℤ-pos n 1 ∙ ap pos (let q : n + 1 ≡ suc n = omega arith in q)
@@ -66,15 +68,11 @@ counted-twice m a =
     (λ (e : takenZ m ≡ false). counted-open (countedOn m a) a (ap takenZ (counted-open m a e)) ∙ sym (counted-open m a e))
     (decide (takenZ m))
 
-taken-none : (z : ℤ) → takenZ z ≡ true → countOf z ≡ 0
-taken-none (pos n) e = absurd (false≢true e)
-taken-none (negsuc n) e = refl
-
 -- at most one more than above
 counted-le : (m a : ℤ) → countOf (countedOn m a) ≤ suc (countOf a)
 counted-le m a =
     ⊎-elim
-    (λ (e : takenZ m ≡ true). let q = ap countOf (counted-marked m a e) ∙ taken-none m e in omega arith)
+    (λ (e : takenZ m ≡ true). let q = ap countOf (counted-marked m a e) ∙ sym (count-neg m (taken-test m ∙ e)) in omega arith)
     (λ (e : takenZ m ≡ false). let q = ap countOf (counted-open m a e) in omega arith)
     (decide (takenZ m))
 
@@ -144,9 +142,9 @@ module _ (W : ℕ) (s₀ s : List ℤ) where
     counted = λ x z a b.
         ⊎-elim
         (λ (e : z ≡ y). subst (λ z. cell W u x z ≡ countedAt W s₀ x z) (sym e) (r .inside x a ∙ next-cell y h d x a))
-        (λ (l : z < y). r .before (z * W + x) (let m : (z + 1) * W ≤ y * W = mul-le-mul-right W (omega arith) in omega (arith, add-mul z 1 W)) ∙ d .counted x z a l)
+        (λ (l : z < y). r .before (z * W + x) (omega (arith, row-before W z y (x + 1) l (omega arith))) ∙ d .counted x z a l)
         (eq-or-lt-of-le (let q : z ≤ y = omega arith in q));
-    ahead = λ x z a b. r .after (z * W + x) (let m : (y + 1) * W ≤ z * W = mul-le-mul-right W b in omega (arith, add-mul y 1 W)) ∙ d .ahead x z a (omega arith);
+    ahead = λ x z a b. r .after (z * W + x) (omega (arith, row-before W y z W (omega arith) (omega arith))) ∙ d .ahead x z a (omega arith);
   }
 
 -- ---- the rows of a surface whose modules are marked

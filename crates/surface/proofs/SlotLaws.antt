@@ -1,77 +1,43 @@
 -- What the tests of slots and ids tell. Assumes nothing.
-use mathlib.Core.Path.{_≡_, refl, sym, ap, ap₂, _∙_, subst}
-use mathlib.Core.Bool.{Bool, true, false, not, cond, _&&_, _||_, true≢false}
+use mathlib.Core.Path.{_≡_, refl, sym, ap, _∙_, subst}
+use mathlib.Core.Bool.{Bool, true, false, not, _&&_, _||_, or-false, true≢false}
 use mathlib.Core.Logic.{⊎-elim}
 use mathlib.Core.List.{List}
-use Prim.Native.Nat.{ℕ, zero, suc, _+_, _*_, _≤_, _<_}
-use native.Mathlib.Nat.{eq-or-lt-of-le, mul-le-mul}
+use Prim.Native.Nat.{ℕ, zero, suc, _+_, _≤_, _<_}
+use native.Mathlib.Nat.{eq-or-lt-of-le}
 use native.Mathlib.Numerals.{add-one}
 use native.Mathlib.Omega.{arith}
 use lib.Dec.{leb, ltb, eqb}
 use lib.ListN.{length, getD, set}
 use lib.Seq.{getD-set-same, getD-set-other}
 use borrow.Author.Count.{below-more}
-use borrow.Author.Tests.{leb-true, leb-false, le-leb, le-ltb, lt-ltb, eqb-true, eq-eqb, not-true, not-false}
-use Rattle.rules.specs.Tests.{every, any, total, count, between}
-use Rattle.rules.specs.Calls.{badSize}
-use Rattle.rules.specs.Surface.{slots, byte, idOf, rectOf, spareZero, freeSlot, usedSlot, soundSlot, slotsSound, idsDiffer, modulesApart}
+use borrow.Author.Tests.{leb-true, leb-false, le-ltb, lt-ltb, eqb-true, eq-eqb, not-true}
+use Rattle.rules.specs.Tests.{any, total, count}
+use Rattle.rules.specs.Surface.{slots, byte, idOf, spareZero, freeSlot, usedSlot, soundSlot, slotsSound, idsDiffer, modulesApart}
 use Rattle.rules.specs.declared.Rect.{Rect}
-use Rattle.rules.proofs.Tests.{and-left, and-right, and-both, or-neither, fails, not-both, decide, every-yes, every-no, any-at, any-yes}
+use Rattle.rules.specs.Requests.{hasId}
+use Rattle.rules.proofs.Tests.{and-left, and-right, and-both, fails, not-both, decide, every-yes, any-at, any-yes}
+use Rattle.meaning.proofs.Stands.{Sound, sound-told, slots-told, sameId, same-told, ids-told, told-ids}
 use Rattle.surface.specs.Slots.{Gathered, tableStands}
-use Rattle.surface.specs.Marks.{hasId}
-
--- two used slots with the same id
-abbrev clash : List ℕ → ℕ → ℕ → Bool
-clash t j i = usedSlot t i && usedSlot t j && eqb (idOf t i) (idOf t j)
 
 -- ---- a sound slot
 
-pub record Sound (W H : ℕ) (t : List ℕ) (i : ℕ) : Type 0 where
-  pub id : 1 ≤ idOf t i
-  pub wide : 1 ≤ rectOf t i .w
-  pub tall : 1 ≤ rectOf t i .h
-  pub columns : rectOf t i .x + rectOf t i .w ≤ W
-  pub lines : rectOf t i .y + rectOf t i .h ≤ H
-  pub spare : byte t i 6 + byte t i 7 ≡ 0
+-- the two spare bytes, by their sum
+pub spare-sum : (t : List ℕ) (i : ℕ) → spareZero t i ≡ true → byte t i 6 + byte t i 7 ≡ 0
+spare-sum t i e =
+    let a = eqb-true (byte t i 6) 0 (and-left (eqb (byte t i 6) 0) (eqb (byte t i 7) 0) e) in
+    let b = eqb-true (byte t i 7) 0 (and-right (eqb (byte t i 6) 0) (eqb (byte t i 7) 0) e) in
+    omega arith
 
-pub sound-means : (W H : ℕ) (t : List ℕ) (i : ℕ) → soundSlot W H t i ≡ true → Sound W H t i
-unfolding soundSlot
-sound-means W H t i e =
-    let r = rectOf t i in
-    let a = leb 1 (idOf t i) in
-    let b = leb 1 (r .w) in
-    let c = leb 1 (r .h) in
-    let d = leb (r .x + r .w) W in
-    let f = leb (r .y + r .h) H in
-    let p5 = and-left (a && b && c && d && f) (spareZero t i) e in
-    let p4 = and-left (a && b && c && d) f p5 in
-    let p3 = and-left (a && b && c) d p4 in
-    let p2 = and-left (a && b) c p3 in
-    let s = and-right (a && b && c && d && f) (spareZero t i) e in
-    let s6 = eqb-true (byte t i 6) 0 (and-left (eqb (byte t i 6) 0) (eqb (byte t i 7) 0) s) in
-    let s7 = eqb-true (byte t i 7) 0 (and-right (eqb (byte t i 6) 0) (eqb (byte t i 7) 0) s) in
-    record {
-      id = leb-true _ _ (and-left a b p2);
-      wide = leb-true _ _ (and-right a b p2);
-      tall = leb-true _ _ (and-right (a && b) c p3);
-      columns = leb-true _ _ (and-right (a && b && c) d p4);
-      lines = leb-true _ _ (and-right (a && b && c && d) f p5);
-      spare = omega arith;
-    }
-
-pub means-sound : (W H : ℕ) (t : List ℕ) (i : ℕ) → Sound W H t i → soundSlot W H t i ≡ true
-unfolding soundSlot
-means-sound W H t i s =
-    and-both
-    (and-both (and-both (and-both (and-both (le-leb _ _ (s .id)) (le-leb _ _ (s .wide))) (le-leb _ _ (s .tall))) (le-leb _ _ (s .columns))) (le-leb _ _ (s .lines)))
-    (and-both (eq-eqb (byte t i 6) 0 (omega (arith, s .spare))) (eq-eqb (byte t i 7) 0 (omega (arith, s .spare))))
+pub sum-spare : (t : List ℕ) (i : ℕ) → byte t i 6 + byte t i 7 ≡ 0 → spareZero t i ≡ true
+sum-spare t i e = and-both (eq-eqb (byte t i 6) 0 (omega arith)) (eq-eqb (byte t i 7) 0 (omega arith))
 
 -- a rectangle that was read, side by side with its bytes
 pub read-rect : {r q : Rect} → r ≡ q → (r .x ≡ q .x) × (r .y ≡ q .y) × (r .w ≡ q .w) × (r .h ≡ q .h)
 read-rect e = (ap (λ (r : Rect). r .x) e, ap (λ (r : Rect). r .y) e, ap (λ (r : Rect). r .w) e, ap (λ (r : Rect). r .h) e)
 
 pub unsound : (W H : ℕ) (t : List ℕ) (i : ℕ) → (Sound W H t i → ⊥) → soundSlot W H t i ≡ false
-unsound W H t i n = fails (soundSlot W H t i) (λ q. n (sound-means W H t i q))
+unsound W H t i n = fails (soundSlot W H t i) (λ q. n (sound-told W H t i q))
 
 -- above a number, or not at most it
 pub over : (a n : ℕ) → ltb a n ≡ not (leb n a)
@@ -81,20 +47,6 @@ over a n =
     (λ (p : leb n a ≡ false). lt-ltb a n (leb-false n a p) ∙ sym (ap not p))
     (decide (leb n a))
 
--- sizes that are not bad
-pub good-size : (W H : ℕ) → badSize W H ≡ false → (1 ≤ W) × (W ≤ 64) × (1 ≤ H) × (H ≤ 64) × (W * H ≤ 4096)
-unfolding badSize
-good-size W H e =
-    let p = or-neither (not (between 1 64 W)) (not (between 1 64 H)) e in
-    let w = not-false _ (p .0) in
-    let h = not-false _ (p .1) in
-    let w0 = leb-true 1 W (and-left (leb 1 W) (leb W 64) w) in
-    let w1 = leb-true W 64 (and-right (leb 1 W) (leb W 64) w) in
-    let h0 = leb-true 1 H (and-left (leb 1 H) (leb H 64) h) in
-    let h1 = leb-true H 64 (and-right (leb 1 H) (leb H 64) h) in
-    let m : W * H ≤ 64 * 64 = mul-le-mul w1 h1 in
-    (w0, w1, h0, h1, omega arith)
-
 -- ---- one number more
 
 pub any-hit : (n : ℕ) (p : ℕ → Bool) → p n ≡ true → any (n + 1) p ≡ true
@@ -102,11 +54,7 @@ any-hit n p e = any-yes (n + 1) p n (omega arith) e
 
 pub any-miss : (n : ℕ) (p : ℕ → Bool) → p n ≡ false → any (n + 1) p ≡ any n p
 unfolding any
-any-miss n p e = rw (add-one n, e) (or-none (any n p))
-  where
-    or-none : (b : Bool) → (b || false) ≡ b
-    or-none true = refl
-    or-none false = refl
+any-miss n p e = rw (add-one n, e) (or-false (any n p))
 
 pub count-hit : (n : ℕ) (p : ℕ → Bool) → p n ≡ true → count (n + 1) p ≡ count n p + 1
 unfolding total
@@ -115,15 +63,6 @@ count-hit n p e = rw (add-one n, e)
 pub count-miss : (n : ℕ) (p : ℕ → Bool) → p n ≡ false → count (n + 1) p ≡ count n p
 unfolding total
 count-miss n p e = rw (add-one n, e) (let q : count n p + 0 ≡ count n p = omega arith in q)
-
-pub count-le : (n : ℕ) (p : ℕ → Bool) → count n p ≤ n
-unfolding total
-count-le zero p = omega arith
-count-le (suc n) p = go (p n) (count-le n p)
-  where
-    go : (b : Bool) → count n p ≤ n → count n p + cond b 1 0 ≤ suc n
-    go true h = omega arith
-    go false h = omega arith
 
 pub count-mono : (i j : ℕ) (p : ℕ → Bool) → i ≤ j → count i p ≤ count j p
 unfolding total
@@ -166,36 +105,32 @@ gather-hit t u i n g e l u′ n′ p q = subst (λ k. Gathered t u′ (i + 1) k)
 -- ---- what makes a table fall
 
 module _ (W H : ℕ) (t : List ℕ) where
+  table-parts : tableStands W H t ≡ true → (slotsSound W H t ≡ true) × (idsDiffer t ≡ true) × (modulesApart W H t ≡ true)
+  unfolding tableStands
+  table-parts z =
+      let f = and-left (slotsSound W H t && idsDiffer t) (modulesApart W H t) z in
+      (and-left (slotsSound W H t) (idsDiffer t) f, and-right (slotsSound W H t) (idsDiffer t) f, and-right (slotsSound W H t && idsDiffer t) (modulesApart W H t) z)
+
   pub falls-unsound : (i : ℕ) → i < slots t → usedSlot t i ≡ true → soundSlot W H t i ≡ false → tableStands W H t ≡ false
-  unfolding tableStands slotsSound
-  falls-unsound i h u e =
-      let q : slotsSound W H t ≡ false = every-no (slots t) (λ i. freeSlot t i || soundSlot W H t i) i h (ap₂ _||_ (not-true (freeSlot t i) u) e) in
-      fails (tableStands W H t) (λ z. not-both (slotsSound W H t) (and-left (slotsSound W H t) (idsDiffer t) (and-left (slotsSound W H t && idsDiffer t) (modulesApart W H t) z)) q)
+  falls-unsound i h u e = fails _ (λ z. not-both _ (slots-told W H t (table-parts z .0) i h (not-true (freeSlot t i) u)) e)
 
   pub falls-alike : (j : ℕ) → j < slots t → usedSlot t j ≡ true → any j (hasId t (idOf t j)) ≡ true → tableStands W H t ≡ false
-  unfolding tableStands idsDiffer
   falls-alike j h u a =
       let w = any-at j (hasId t (idOf t j)) a in
-      let i = w .0 in
-      let used = and-left (usedSlot t i) (eqb (idOf t i) (idOf t j)) (w .2) in
-      let same = and-right (usedSlot t i) (eqb (idOf t i) (idOf t j)) (w .2) in
-      let q : idsDiffer t ≡ false =
-      every-no (slots t) (λ j. every j (λ i. not (clash t j i))) j h
-      (every-no j (λ i. not (clash t j i)) i (w .1) (ap not (and-both (and-both used u) same))) in
-      fails (tableStands W H t) (λ z. not-both (idsDiffer t) (and-right (slotsSound W H t) (idsDiffer t) (and-left (slotsSound W H t && idsDiffer t) (modulesApart W H t) z)) q)
+      let used = and-left (usedSlot t (w .0)) (eqb (idOf t (w .0)) (idOf t j)) (w .2) in
+      let same = and-right (usedSlot t (w .0)) (eqb (idOf t (w .0)) (idOf t j)) (w .2) in
+      fails _ (λ z. not-both (sameId t (w .0) j) (and-both (and-both used u) same) (ids-told t (table-parts z .1) (w .0) j (omega (arith, w .1)) h (λ q. omega (arith, w .1))))
 
   pub falls-shared : modulesApart W H t ≡ false → tableStands W H t ≡ false
-  unfolding tableStands
-  falls-shared q = fails (tableStands W H t) (λ z. not-both (modulesApart W H t) (and-right (slotsSound W H t && idsDiffer t) (modulesApart W H t) z) q)
+  falls-shared q = fails _ (λ z. not-both _ (table-parts z .2) q)
 
   -- and what lets it stand
   pub table-stands : ((j : ℕ) → j < slots t → (freeSlot t j || soundSlot W H t j) ≡ true) → ((j : ℕ) → j < slots t → usedSlot t j ≡ true → any j (hasId t (idOf t j)) ≡ false) → modulesApart W H t ≡ true → tableStands W H t ≡ true
-  unfolding tableStands slotsSound idsDiffer
-  table-stands s d m = and-both (and-both (every-yes (slots t) (λ i. freeSlot t i || soundSlot W H t i) s) (every-yes (slots t) (λ j. every j (λ i. not (clash t j i))) alone)) m
+  unfolding tableStands slotsSound
+  table-stands s d m = and-both (and-both (every-yes (slots t) (λ i. freeSlot t i || soundSlot W H t i) s) (told-ids t alone)) m
     where
-      alone : (j : ℕ) → j < slots t → every j (λ i. not (clash t j i)) ≡ true
-      alone j h =
-          every-yes j (λ i. not (clash t j i)) (λ i l. ap not (fails (clash t j i) (λ c.
-          let both = and-left (usedSlot t i && usedSlot t j) (eqb (idOf t i) (idOf t j)) c in
-          let same = and-right (usedSlot t i && usedSlot t j) (eqb (idOf t i) (idOf t j)) c in
-          true≢false (sym (any-yes j (hasId t (idOf t j)) i l (and-both (and-left (usedSlot t i) (usedSlot t j) both) same)) ∙ d j h (and-right (usedSlot t i) (usedSlot t j) both)))))
+      alone : (i j : ℕ) → i < j → j < slots t → sameId t i j ≡ false
+      alone i j l h =
+          fails (sameId t i j) (λ c.
+          let w = same-told t i j c in
+          true≢false (sym (any-yes j (hasId t (idOf t j)) i l (and-both (w .0) (eq-eqb (idOf t i) (idOf t j) (w .2)))) ∙ d j h (w .1)))

@@ -1,5 +1,6 @@
--- What the walks of `surface` leave, and its calls.
+-- What the walks of `surface` leave.
+pub mod Sizes
 pub mod Rows
 pub mod Slots
 pub mod Marks
-pub mod Outcome
+pub mod Examine

@@ -3,18 +3,19 @@ use mathlib.Core.Path.{_≡_}
 use mathlib.Core.Bool.{Bool, true, false, cond, _&&_, _||_}
 use mathlib.Core.Logic.{_⊎_}
 use mathlib.Core.List.{List}
-use Prim.Native.Nat.{ℕ, _+_, _-_, _*_, _≤_, _<_}
+use Prim.Native.Nat.{ℕ, _+_, _*_, _≤_, _<_}
 use lib.Dec.{eqb}
 use lib.IntN.{ℤ, pos, negℤ}
 use lib.ListN.{length, getD}
 use Rattle.rules.specs.Tests.{any, count, least}
 use Rattle.rules.specs.Surface.{slots, idOf, freeSlot, usedSlot, soundSlot, cell, holds, remaining}
+use Rattle.rules.specs.Requests.{hasId}
 use Rattle.surface.specs.Slots.{tableStands, Under}
 
--- the j rows from y of the columns x .. x + n - 1 are marked, and nothing else has changed
-pub record Marked (W : ℕ) (s₀ s : List ℤ) (x y n j : ℕ) : Type 0 where
+-- the j rows from y of the columns x .. x + n - 1 are marked, column c with the number g c, and nothing else has changed
+pub record Marked (W : ℕ) (s₀ s : List ℤ) (x y n j : ℕ) (g : ℕ → ℕ) : Type 0 where
   pub long : length s ≡ length s₀
-  pub inside : (c r : ℕ) → x ≤ c → c < x + n → y ≤ r → r < y + j → cell W s c r ≡ negℤ (pos (x + n - c))
+  pub inside : (c r : ℕ) → x ≤ c → c < x + n → y ≤ r → r < y + j → cell W s c r ≡ negℤ (pos (g c))
   pub beside : (c r : ℕ) → c < W → (c < x) ⊎ (x + n ≤ c) → cell W s c r ≡ cell W s₀ c r
   pub above : (c r : ℕ) → c < W → r < y → cell W s c r ≡ cell W s₀ c r
   pub below : (c r : ℕ) → c < W → y + j ≤ r → cell W s c r ≡ cell W s₀ c r
@@ -28,10 +29,6 @@ pub record MarkedTo (W H : ℕ) (t : List ℕ) (n : ℕ) (m : List ℤ) : Type 0
   pub long : length m ≡ W * H
   pub cells : (x y : ℕ) → x < W → y < H → cell W m x y ≡ markOf t n x y
   pub apart : (x y : ℕ) → x < W → y < H → (j : ℕ) → j < n → (i : ℕ) → i < j → (holds t x y i && holds t x y j) ≡ false
-
--- slot i is used and has this id
-abbrev pub hasId : List ℕ → ℕ → ℕ → Bool
-hasId t id i = usedSlot t i && eqb (idOf t i) id
 
 -- each of the first i slots is free or sound, the n used ones among them have ids of their own, which stand side by side in ids, and modules that
 -- are apart and marked

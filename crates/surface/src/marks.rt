@@ -2,9 +2,9 @@
 // look and one store for each cell of the surface.
 ghost use mathlib.Core.Path.{_≡_};
 ghost use mathlib.Core.Bool.{true};
-ghost use Prim.Native.Nat.{_+_, _*_, _≤_};
+ghost use Prim.Native.Nat.{ℕ, _+_, _*_, _≤_};
 ghost use lib.ListN.{length};
-ghost use Rattle.rules.specs.Surface.{slots};
+ghost use Rattle.rules.specs.Surface.{rect, slots, number};
 ghost use Rattle.cells.specs.Weight.{untaken};
 ghost use Rattle.surface.specs.Slots.{Gathered};
 ghost use Rattle.surface.specs.Marks.{Marked, TakenTo, Takeable, SlotTaken, AllTaken};
@@ -12,12 +12,12 @@ use super::slots::known;
 use super::slots::larger;
 use super::slots::sound;
 
-// The cells of the mw by mh rectangle at (x, y), each looked at before it is marked with the width that remains. Both walks end at the first that is
-// taken already.
+// The cells of the mw by mh rectangle at (x, y), each looked at before it is marked with the number of a module there, in whichever slot. Both walks
+// end at the first that is taken already.
 fn mark(m: &mut [i16], w: usize, x: usize, y: usize, mw: usize, mh: usize) -> bool
     requires { ⌜ (x + mw ≤ w) × ((y + mh) * w ≤ length (now m)) × (1 ≤ w) × (w ≤ 64) ⌝ }
     ensures { λ r. ⌜ r ≡ untaken w (now (m .entry)) x y mw mh ⌝ }
-    ensures { λ r. ⌜ (r ≡ true → Marked w (now (m .entry)) (now (m .exit)) x y mw mh) ⌝ }
+    ensures { λ r. ⌜ (r ≡ true → (i : ℕ) → Marked w (now (m .entry)) (now (m .exit)) x y mw mh (number i (rect x y mw mh))) ⌝ }
 {
     let mut free = true;
     let mut j = 0;

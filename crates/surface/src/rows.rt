@@ -1,11 +1,11 @@
-// "every weight is as above": the weights are worked out afresh, row after row, from the marks and the row above; then the lent ones are held
-// against them. Each loop looks at all its cells, so that the compiler takes many at a time.
+// "every weight is as above": the weights are worked out afresh, row after row, from the marks and the row above. Each loop looks at all its cells, so
+// that the compiler takes many at a time.
 ghost use mathlib.Core.Path.{_≡_};
 ghost use mathlib.Core.Bool.{cond};
 ghost use Prim.Native.Nat.{ℕ, _+_, _-_, _*_, _≤_, _<_};
 ghost use lib.ListN.{length, getD};
 ghost use lib.IntN.{pos};
-ghost use Rattle.cells.specs.Weight.{takenZ, countOf, sameWeights};
+ghost use Rattle.cells.specs.Weight.{takenZ, countOf};
 ghost use Rattle.surface.specs.Rows.{RowWritten, countedOn, CountedTo};
 
 // The mark of an occupied cell, the count of an empty one. A leaf, as `cells::height_of` is, so that both become selections and no branch is left in a
@@ -61,20 +61,4 @@ pub fn count_rows(m: &mut [i16], w: usize, h: usize)
         at += w;
         y += 1;
     }
-}
-
-// Whether the lent weights s are those worked out.
-pub fn same_weights(m: &[i16], s: &[i16]) -> bool
-    requires { ⌜ length (now m) ≡ length (now s) ⌝ }
-    ensures { λ r. ⌜ r ≡ sameWeights (now (m .entry)) (now (s .entry)) ⌝ }
-{
-    let mut ok = true;
-    let mut k = 0;
-    while k < m.len() {
-        if !cells::is_same(m[k], s[k]) {
-            ok = false;
-        }
-        k += 1;
-    }
-    ok
 }

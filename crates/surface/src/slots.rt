@@ -47,7 +47,10 @@ pub fn sound(t: &[u8], i: usize, id: usize, r: Rect, w: usize, h: usize) -> bool
     if h < r.y + r.h {
         return false;
     }
-    table::spare_at(t, i) == 0
+    if 0 < table::spare_at(t, i) {
+        return false;
+    }
+    true
 }
 
 // Whether the id is one of the first n. It looks at all of them, so that the compiler takes many at a time.

@@ -1,24 +1,15 @@
 -- Laws of a slot's bytes. Assumes nothing.
-use mathlib.Core.Path.{_≡_, refl, sym, ap, _∙_}
-use mathlib.Core.Bool.{Bool, true, false}
-use mathlib.Core.Logic.{_⊎_, inl, inr, ⊎-elim}
+use mathlib.Core.Path.{_≡_, sym, _∙_}
+use mathlib.Core.Bool.{true, false}
+use mathlib.Core.Logic.{⊎-elim}
 use mathlib.Core.List.{List}
-use Prim.Native.Nat.{ℕ, zero, suc, _+_, _*_, _≤_, _<_}
+use Prim.Native.Nat.{ℕ, zero, suc, _+_, _*_, _<_}
 use native.Mathlib.Omega.{arith}
 use lib.Dec.{eqb}
-use borrow.Author.Tests.{eqb-true, eqb-false, eq-eqb}
-use Rattle.rules.specs.Tests.{every}
+use borrow.Author.Tests.{eqb-true, eqb-false}
 use Rattle.rules.specs.Surface.{byte, freeSlot}
-use Rattle.rules.proofs.Tests.{fails, decide, every-at, every-yes}
-
--- a free slot's bytes are zero
-pub free-byte : (t : List ℕ) (i : ℕ) → freeSlot t i ≡ true → (k : ℕ) → k < 8 → byte t i k ≡ 0
-unfolding freeSlot
-free-byte t i e k h = eqb-true (byte t i k) 0 (every-at 8 (λ k. eqb (byte t i k) 0) e k h)
-
-pub bytes-free : (t : List ℕ) (i : ℕ) → ((k : ℕ) → k < 8 → byte t i k ≡ 0) → freeSlot t i ≡ true
-unfolding freeSlot
-bytes-free t i h = every-yes 8 (λ k. eqb (byte t i k) 0) (λ k l. eq-eqb (byte t i k) 0 (h k l))
+use Rattle.meaning.proofs.Tables.{free-byte, bytes-free}
+use Rattle.rules.proofs.Tests.{fails, decide}
 
 -- below eight there are eight
 below-eight : (P : ℕ → Type 0) → P 0 → P 1 → P 2 → P 3 → P 4 → P 5 → P 6 → P 7 → (k : ℕ) → k < 8 → P k

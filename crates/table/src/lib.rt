@@ -1,11 +1,14 @@
-// The table's records are read here: a slot is eight bytes, the id low byte first, then x, y, w, h and two spare bytes.
+// The table's records, read, looked for and written: a slot is eight bytes, the id low byte first, then x, y, w, h and two spare bytes.
 ghost use mathlib.Core.Path.{_≡_};
-ghost use Prim.Native.Nat.{ℕ, _+_, _*_, _≤_, _<_};
-ghost use lib.ListN.{length, getD};
-ghost use Rattle.rules.specs.Surface.{byte, idOf, rectOf, freeSlot};
+ghost use Prim.Native.Nat.{_+_, _*_, _≤_, _<_};
+ghost use lib.ListN.{length};
+ghost use Rattle.rules.specs.Surface.{byte, slots, idOf, rectOf, freeSlot, recordOf, withRecord};
+ghost use Rattle.rules.specs.Requests.{hasId, slotOf, lowestFree};
+ghost use Rattle.table.specs.Record.{Bytes};
 use rules::Rect;
 
-fn wide(b: u8) -> usize
+// A byte as a number.
+pub fn wide(b: u8) -> usize
     ensures { λ r. ⌜ (r ≡ b) × (r < 256) ⌝ }
 {
     b as usize
@@ -62,4 +65,72 @@ pub fn slot_free(t: &[u8], i: usize) -> bool
     let low = two_at(t, i, 0) + 65536 * two_at(t, i, 2);
     let high = two_at(t, i, 4) + 65536 * two_at(t, i, 6);
     low + 4294967296 * high == 0
+}
+
+// Slot i is used and has this id. The id is looked at first: hardly any slot has it.
+fn has_id(t: &[u8], id: usize, i: usize) -> bool
+    requires { ⌜ 8 * i + 8 ≤ length (now t) ⌝ }
+    ensures { λ r. ⌜ r ≡ hasId (now (t .entry)) id i ⌝ }
+{
+    if id_at(t, i) != id {
+        return false;
+    }
+    !slot_free(t, i)
+}
+
+// The slot of the module with this id, and the number of slots where there is none.
+pub fn slot_of(t: &[u8], id: usize) -> usize
+    requires { ⌜ length (now t) ≡ 8 * slots (now t) ⌝ }
+    ensures { λ r. ⌜ r ≡ slotOf (now (t .entry)) id ⌝ }
+{
+    let n = t.len() / 8;
+    let mut i = 0;
+    while i < n {
+        if has_id(t, id, i) {
+            return i;
+        }
+        i += 1;
+    }
+    n
+}
+
+// "Place and pin use the lowest free slot": the number of slots where there is none.
+pub fn lowest_free(t: &[u8]) -> usize
+    requires { ⌜ length (now t) ≡ 8 * slots (now t) ⌝ }
+    ensures { λ r. ⌜ r ≡ lowestFree (now (t .entry)) ⌝ }
+{
+    let n = t.len() / 8;
+    let mut i = 0;
+    while i < n {
+        if slot_free(t, i) {
+            return i;
+        }
+        i += 1;
+    }
+    n
+}
+
+// A number that is one byte.
+pub fn byte_of(n: usize) -> u8
+    requires { ⌜ n < 256 ⌝ }
+    ensures { λ r. ⌜ r ≡ n ⌝ }
+{
+    n as u8
+}
+
+// "Bytes 0 and 1 are the id, low byte first, then x, y, w, h, then two zero bytes."
+pub fn put_record(t: &mut [u8], i: usize, low: u8, high: u8, r: Rect)
+    requires { ⌜ 8 * i + 8 ≤ length (now t) ⌝ }
+    requires { ⌜ Bytes r ⌝ }
+    ensures { λ _. ⌜ now (t .exit) ≡ withRecord (now (t .entry)) i (recordOf low high r) ⌝ }
+{
+    let at = 8 * i;
+    t[at] = low;
+    t[at + 1] = high;
+    t[at + 2] = byte_of(r.x);
+    t[at + 3] = byte_of(r.y);
+    t[at + 4] = byte_of(r.w);
+    t[at + 5] = byte_of(r.h);
+    t[at + 6] = 0;
+    t[at + 7] = 0;
 }

@@ -1,4 +1,4 @@
-use lib.IntN.{ℤ, pos}
+use lib.IntN.{pos}
 use lib.Signed.{ltZ}
 use mathlib.Core.Path.{_≡_}
 use mir.Syntax.{w16}

@@ -2,16 +2,13 @@ use borrow.Author.Needs.{needs}
 use native.Mathlib.Omega.{arith}
 use mathlib.Core.Path.{_≡_, _∙_, sym, subst}
 use Prim.Native.Nat.{ℕ, zero, suc, _≤_}
-use lib.IntN.{ℤ, pos, negℤ, _-ℤ_}
+use lib.IntN.{pos, negℤ, _-ℤ_}
 use mir.Syntax.{w16}
 use mir.Val.{SFits, toZ}
 use mir.ValLaws.{toZ-pos, toZ-ofZ}
 use Rattle.cells.proofs.Laws.{neg-is}
 use Rattle.cells.proofs.occupied_by.Statement.{statement}
 use Rattle.cells.proofs.occupied_by.Tie as tie
-
-cast-result : tie.Need-cast-result
-cast-result c = search needs
 
 neg-nat : (n : ℕ) → n ≤ 32767 → SFits w16 (negℤ (pos n))
 neg-nat zero h = record { sfits = omega arith }
@@ -27,4 +24,4 @@ returns : tie.Need-returns
 returns c = toZ-ofZ w16 _ (sub-result c) ∙ diff c
 
 pub occupied-by-spec : {M : Type 1} → statement M
-occupied-by-spec = tie.close (tie.spec cast-result sub-result returns)
+occupied-by-spec = tie.close (tie.spec (λ c. search needs) sub-result returns)

@@ -8,18 +8,9 @@ use borrow.Author.Needs.{needs}
 use Rattle.cells.proofs.taken_at.Statement.{statement}
 use Rattle.cells.proofs.taken_at.Tie as tie
 
-mul-is-taken : tie.Need-mul-is-taken
-mul-is-taken c = search needs
-
-shared-slice-copy-out-is-taken : tie.Need-shared-slice-copy-out-is-taken
-shared-slice-copy-out-is-taken c = search needs
-
-is-taken-requires : tie.Need-is-taken-requires
-is-taken-requires c κs = search needs
-
 returns : tie.Need-returns
 returns c = c .is-taken .ensures ∙ ap takenZ (toZ-ofZ w16 (getD (c .before .before .args .s .now) (c .before .before .args .i) (pos 0)) (record { sfits = c .before .is-taken-arg .given }))
 
 pub taken-at-spec : {M : Type 1} → statement M
 taken-at-spec =
-    tie.close (tie.spec mul-is-taken shared-slice-copy-out-is-taken is-taken-requires returns)
+    tie.close (tie.spec (λ c. search needs) (λ c. search needs) (λ c κs. search needs) returns)

@@ -50,7 +50,7 @@ kept c =
 scanned-rows-requires : tie.Need-scanned-rows-requires Inv-loop μ-loop
 scanned-rows-requires c κs =
     let p = c .before .before .before .before .before .before .pre in
-    (p .0 .whole, (p .0 .high, p .1 .1 .0))
+    (p .0 .whole, (p .0 .sides .high, p .1 .1 .0))
 
 loop-holds : tie.Need-loop-holds Inv-loop μ-loop
 loop-holds c = let a = start (c .before .before) .args in
@@ -62,21 +62,6 @@ best-row-requires c κs =
     let p = start (marked l) .pre in
     let i = l .loop .inv in
     (p .0, ((p .1 .0, entered c .loop-test .taken, marked l .scanned-rows .ensures), (omega (arith, i .0, p .1 .1 .1), omega (arith, i .1, p .1 .1 .2), omega (arith, i .2, p .1 .1 .3))))
-
-done-requires : tie.Need-done-requires Inv-loop μ-loop
-done-requires c κs = search needs
-
-same-length : tie.Need-same-length Inv-loop μ-loop
-same-length c = marked (entered (rowed (c .before) .before) .before) .scanned-rows .kept .1 .1 .0
-
-same-length-2 : tie.Need-same-length-2 Inv-loop μ-loop
-same-length-2 c = kept (rowed (c .before)) .0
-
-same-length-3 : tie.Need-same-length-3 Inv-loop μ-loop
-same-length-3 c = kept (rowed (c .before)) .1
-
-same-length-4 : tie.Need-same-length-4 Inv-loop μ-loop
-same-length-4 c = kept (rowed (c .before)) .2
 
 returns : tie.Need-returns Inv-loop μ-loop
 returns c =
@@ -98,18 +83,6 @@ loop-again c =
     let r = rowed (c .before) in
     (kept r .0, kept r .1, kept r .2, omega (arith, entered (r .before) .loop-test .taken), now-best r)
 
-same-length-5 : tie.Need-same-length-5 Inv-loop μ-loop
-same-length-5 c = marked (c .before) .scanned-rows .kept .1 .1 .0
-
-same-length-6 : tie.Need-same-length-6 Inv-loop μ-loop
-same-length-6 c = c .before .loop .inv .0
-
-same-length-7 : tie.Need-same-length-7 Inv-loop μ-loop
-same-length-7 c = c .before .loop .inv .1
-
-same-length-8 : tie.Need-same-length-8 Inv-loop μ-loop
-same-length-8 c = c .before .loop .inv .2
-
 returns-2 : tie.Need-returns-2 Inv-loop μ-loop
 returns-2 c =
     let a = start (marked (c .before)) .args in
@@ -126,17 +99,17 @@ best-on-spec =
     scanned-rows-requires
     loop-holds
     best-row-requires
-    done-requires
-    same-length
-    same-length-2
-    same-length-3
-    same-length-4
+    (λ c κs. search needs)
+    (λ c. marked (entered (rowed (c .before) .before) .before) .scanned-rows .kept .1 .1 .0)
+    (λ c. kept (rowed (c .before)) .0)
+    (λ c. kept (rowed (c .before)) .1)
+    (λ c. kept (rowed (c .before)) .2)
     returns
     add-y
     loop-less
     loop-again
-    same-length-5
-    same-length-6
-    same-length-7
-    same-length-8
+    (λ c. marked (c .before) .scanned-rows .kept .1 .1 .0)
+    (λ c. c .before .loop .inv .0)
+    (λ c. c .before .loop .inv .1)
+    (λ c. c .before .loop .inv .2)
     returns-2)

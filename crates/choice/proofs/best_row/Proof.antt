@@ -1,11 +1,14 @@
 -- `choice::best_row` meets its contract. Assumes nothing.
+use mathlib.Core.Path.{refl, sym}
+use mathlib.Core.List.{[]}
 use native.Mathlib.Omega.{arith}
 use borrow.Author.Tests.{not-true}
 use Rattle.rules.specs.Surface.{occupied}
 use Rattle.listing.specs.Row.{rows}
-use Rattle.listing.proofs.List.{unscanned, held-drawn}
-use Rattle.listing.proofs.Scanned.{scan-no}
-use Rattle.choice.proofs.Walk.{row-best, row-none}
+use Rattle.listing.proofs.ListLaws.{unscanned, held-drawn}
+use Rattle.listing.proofs.ScanLaws.{scan-no}
+use Rattle.choice.specs.Best.{bestOf}
+use Rattle.choice.proofs.Walk.{row-best}
 use Rattle.choice.proofs.Room.{best-unfit}
 use borrow.Author.Needs.{needs}
 use Rattle.choice.proofs.best_row.Statement.{statement}
@@ -17,25 +20,17 @@ start c = c .before .before .before .before .before .before .before .before .bef
 abbrev rowed : tie.After-best-in-arg3 → tie.After-row
 rowed c = c .before .before .before .before .before .before .before .before .before
 
-shared-slice-read-if1 : tie.Need-shared-slice-read-if1
-shared-slice-read-if1 c = search needs
-
 returns : tie.Need-returns
+unfolding bestOf
 returns c =
     let s = c .before .before .before .before .before .before .before in
     let a = s .args in
     let p = s .pre in
-    row-none (a .w) (a .h) (a .rule) (a .mw) (a .mh) (occupied (a .table .now)) (a .y) (a .b)
-    (unscanned (a .table .now) (a .w) (a .h) (a .y) (p .1 .0 .1) (scan-no (p .1 .0 .2) (a .y) (p .1 .0 .1) (c .if1 .taken)))
-
-row-has-room-requires : tie.Need-row-has-room-requires
-row-has-room-requires c κs = search needs
+    row-best (a .w) (a .h) (a .rule) (a .mw) (a .mh) (occupied (a .table .now)) (a .y) (a .b) (a .b) []
+    (sym (unscanned (a .table .now) (a .w) (a .h) (a .y) (p .1 .0 .1) (scan-no (p .1 .0 .2) (a .y) (p .1 .0 .1) (c .if1 .taken)))) refl
 
 returns-2 : tie.Need-returns-2
 returns-2 c = best-unfit _ _ _ _ _ _ _ (c .before .row-has-room .ensures (not-true _ (c .if2 .taken)))
-
-row-requires : tie.Need-row-requires
-row-requires c κs = search needs
 
 best-in-requires : tie.Need-best-in-requires
 best-in-requires c κs =
@@ -44,21 +39,12 @@ best-in-requires c κs =
     let l = r .row .last .1 .1 .1 .1 .1 in
     let k = r .row .kept .1 .1 .1 .1 .1 in
     let m = r .row .ensures .1 .0 .1 in (
-      (p .0 .widest, p .0 .highest, p .1 .0 .1, p .1 .0 .0),
+      (p .0 .sides .widest, p .0 .sides .highest, p .1 .0 .1, p .1 .0 .0),
       (
         (omega (arith, m, k .0, p .1 .1 .0), omega (arith, m, k .1 .0, p .1 .1 .1), omega (arith, m, k .1 .1 .0, p .1 .1 .2)),
-        held-drawn _ _ _ _ (l .0) (l .1 .0) (l .1 .1 .0) _ (p .1 .0 .1) (p .0 .widest) (p .0 .highest) (r .row .ensures .0),
+        held-drawn _ _ _ _ (l .0) (l .1 .0) (l .1 .1 .0) _ (p .1 .0 .1) (p .0 .sides .widest) (p .0 .sides .highest) (r .row .ensures .0),
       ),
     )
-
-same-length : tie.Need-same-length
-same-length c = search needs
-
-same-length-2 : tie.Need-same-length-2
-same-length-2 c = search needs
-
-same-length-3 : tie.Need-same-length-3
-same-length-3 c = search needs
 
 returns-3 : tie.Need-returns-3
 returns-3 c =
@@ -71,13 +57,13 @@ pub best-row-spec : {M : Type 1} → statement M
 best-row-spec =
     tie.close
     (tie.spec
-    shared-slice-read-if1
+    (λ c. search needs)
     returns
-    row-has-room-requires
+    (λ c κs. search needs)
     returns-2
-    row-requires
+    (λ c κs. search needs)
     best-in-requires
-    same-length
-    same-length-2
-    same-length-3
+    (λ c. search needs)
+    (λ c. search needs)
+    (λ c. search needs)
     returns-3)

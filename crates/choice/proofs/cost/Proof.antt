@@ -1,6 +1,8 @@
 -- `choice::cost` meets its contract. Assumes nothing.
+use mathlib.Core.Path.{sym, ap}
 use native.Mathlib.Omega.{arith}
-use Rattle.choice.proofs.Costs.{Small, small, cost-first, cost-area, cost-low}
+use Rattle.rules.specs.Requests.{cost}
+use Rattle.choice.proofs.Costs.{Small, small, cost-low}
 use borrow.Author.Needs.{needs}
 use Rattle.choice.proofs.cost.Statement.{statement}
 use Rattle.choice.proofs.cost.Tie as tie
@@ -10,7 +12,8 @@ low : (c : tie.Start) → Small (c .args .w) (c .args .h) (c .args .mw) (c .args
 low c = small _ _ _ _ _ (c .pre .0) (c .pre .1 .0)
 
 returns : tie.Need-returns
-returns c = cost-first _ _ _ _ _ _ (c .if1 .taken)
+unfolding cost
+returns c = let a = c .before .args in ap (λ r. cost (a .w) (a .h) (a .mw) (a .mh) r (a .e)) (sym (c .if1 .taken))
 
 mul-result : tie.Need-mul-result
 mul-result c = omega (arith, low (c .before .before .before) .area-low)
@@ -22,13 +25,8 @@ sub-result : tie.Need-sub-result
 sub-result c = omega (arith, low (c .before .before .before) .less)
 
 returns-2 : tie.Need-returns-2
-returns-2 c = cost-area _ _ _ _ _ _ (c .before .if2 .taken)
-
-sub-result-2 : tie.Need-sub-result-2
-sub-result-2 c = search needs
-
-sub-result-3 : tie.Need-sub-result-3
-sub-result-3 c = search needs
+unfolding cost
+returns-2 c = let a = c .before .before .before .args in ap (λ r. cost (a .w) (a .h) (a .mw) (a .mh) r (a .e)) (sym (c .before .if2 .taken))
 
 mul-result-3 : tie.Need-mul-result-3
 mul-result-3 c = omega (arith, low (c .before .before .before .before) .rows-low)
@@ -48,8 +46,8 @@ cost-spec =
     mul-result-2
     sub-result
     returns-2
-    sub-result-2
-    sub-result-3
+    (λ c. search needs)
+    (λ c. search needs)
     mul-result-3
     add-result
     returns-3)

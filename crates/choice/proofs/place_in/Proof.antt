@@ -5,17 +5,8 @@ use borrow.Author.Needs.{needs}
 use Rattle.choice.proofs.place_in.Statement.{statement}
 use Rattle.choice.proofs.place_in.Tie as tie
 
-enum-known-b : tie.Need-enum-known-b
-enum-known-b c = search needs
-
-enum-told : tie.Need-enum-told
-enum-told c = search needs
-
-returns : tie.Need-returns
-returns c = search needs
-
 returns-2 : tie.Need-returns-2
 returns-2 c = sym (ap placeIn (c .before .b .given .1))
 
 pub place-in-spec : {M : Type 1} → statement M
-place-in-spec = tie.close (tie.spec enum-known-b enum-told returns returns-2)
+place-in-spec = tie.close (tie.spec (λ c. search needs) (λ c. search needs) (λ c. search needs) returns-2)

@@ -1,5 +1,5 @@
 -- `choice::row_has_room` meets its contract. Assumes nothing.
-use mathlib.Core.Path.{_≡_, sym, _∙_, subst}
+use mathlib.Core.Path.{_≡_, _∙_, subst}
 use mathlib.Core.Bool.{true, true≢false}
 use Prim.Native.Nat.{_+_, _-_, _*_, _<_}
 use native.Mathlib.Omega.{arith}
@@ -50,19 +50,16 @@ low c =
     plain w16 (λ v. ltZ v (pos (start (looped (c .before)) .args .mh)) ≡ true) {z = z} (record { sfits = c .before .z .given })
     (subst (λ v. ltZ (toZ w16 (ofZ w16 z)) v ≡ true) (toZ-ofZ w16 _ (record { sfits = counted .ok }) ∙ counted .ensures) (c .if2 .taken))
 
-add-if1 : tie.Need-add-if1 Inv-loop μ-loop
-add-if1 c = search needs
-
 returns : tie.Need-returns Inv-loop μ-loop
 returns c = let s = c .before .before in λ _. too-high (s .args .w) (s .args .h) (s .args .weights .now) (s .args .table .now) (s .pre .0) (s .args .y) (s .pre .1) (s .args .mw) (s .args .mh) (c .if1 .taken)
 
 counted-requires : tie.Need-counted-requires Inv-loop μ-loop
-counted-requires c κs = omega (arith, c .if1 .left, c .before .before .pre .0 .highest, c .before .before .pre .1)
+counted-requires c κs = omega (arith, c .if1 .left, c .before .before .pre .0 .sides .highest, c .before .before .pre .1)
 
 mul-at : tie.Need-mul-at Inv-loop μ-loop
 mul-at c =
     let s = c .before .before .before in
-    omega (arith, number-in (s .args .w) (s .args .h) (s .args .weights .now) (s .args .table .now) (s .pre .0) 0 (s .args .y) (s .pre .0 .wide) (s .pre .1))
+    omega (arith, number-in (s .args .w) (s .args .h) (s .args .weights .now) (s .args .table .now) (s .pre .0) 0 (s .args .y) (s .pre .0 .sides .wide) (s .pre .1))
 
 loop-holds : tie.Need-loop-holds Inv-loop μ-loop
 loop-holds c = runs-start
@@ -77,7 +74,7 @@ shared-slice-copy-out-z : tie.Need-shared-slice-copy-out-z Inv-loop μ-loop
 shared-slice-copy-out-z c = on c .0
 
 add-x : tie.Need-add-x Inv-loop μ-loop
-add-x c = omega (arith, c .before .before .loop-test .taken, start (looped (c .before)) .pre .0 .widest)
+add-x c = omega (arith, c .before .before .loop-test .taken, start (looped (c .before)) .pre .0 .sides .widest)
 
 loop-less : tie.Need-loop-less Inv-loop μ-loop
 loop-less c = omega (arith, c .before .before .loop-test .taken)
@@ -91,13 +88,13 @@ loop-again c =
     runs-anew (l .run) (l .x) (l .inv) (too-low (a .w) (a .h) (a .weights .now) (a .table .now) (s .pre .0) (a .y) (s .pre .1) (a .mh) (l .x) (r .before .loop-test .taken) (low c))
 
 add-run : tie.Need-add-run Inv-loop μ-loop
-add-run c = let z = c .before in omega (arith, looped z .loop .inv .few, z .before .loop-test .taken, start (looped z) .pre .0 .widest)
+add-run c = let z = c .before in omega (arith, looped z .loop .inv .few, z .before .loop-test .taken, start (looped z) .pre .0 .sides .widest)
 
 returns-2 : tie.Need-returns-2 Inv-loop μ-loop
 returns-2 c = λ e. absurd (true≢false e)
 
 add-x-2 : tie.Need-add-x-2 Inv-loop μ-loop
-add-x-2 c = omega (arith, c .before .before .before .loop-test .taken, start (looped (c .before .before)) .pre .0 .widest)
+add-x-2 c = omega (arith, c .before .before .before .loop-test .taken, start (looped (c .before .before)) .pre .0 .sides .widest)
 
 loop-less-2 : tie.Need-loop-less-2 Inv-loop μ-loop
 loop-less-2 c = omega (arith, c .before .before .before .loop-test .taken)
@@ -117,7 +114,7 @@ row-has-room-spec =
     (tie.spec
     Inv-loop
     μ-loop
-    add-if1
+    (λ c. search needs)
     returns
     counted-requires
     mul-at

@@ -1,13 +1,14 @@
-use mathlib.Core.Path.{_≡_, refl, sym, _∙_, ap}
-use Prim.Native.Nat.{ℕ, _+_, _*_, _/_, _%_, _≤_, _<_, _-_}
+use mathlib.Core.Path.{sym, _∙_}
+use Prim.Native.Nat.{_*_, _≤_, _-_}
 use native.Mathlib.Omega.{arith}
-use lib.ListN.{length, getD, set, length-set}
+use lib.ListN.{length, getD}
 use lib.IntN.{pos}
 use mir.Syntax.{w16}
 use mir.ValLaws.{toZ-ofZ}
-use Rattle.rules.specs.Host.{bytesOf, bits16}
-use Rattle.cells.proofs.Upto.{Upto, upto-none, upto-more, upto-all}
-use Rattle.codec.proofs.Laws.{length-bytesOf, stored-more}
+use Rattle.rules.specs.Host.{bytesOf}
+use Rattle.cells.proofs.Upto.{Upto, upto-none, upto-all}
+use Rattle.meaning.proofs.Bytes.{length-bytesOf}
+use Rattle.codec.proofs.Laws.{stored-more}
 use Rattle.codec.proofs.encode.Statement.{statement}
 use Rattle.codec.proofs.encode.Tie as tie
 
@@ -20,20 +21,8 @@ abbrev μ-loop : tie.MeasureT-loop
 loop-holds : tie.Need-loop-holds Inv-loop μ-loop
 loop-holds c = (omega arith, upto-none (c .before .pre ∙ sym (length-bytesOf (c .before .args .s .now))))
 
-mul-put-weight : tie.Need-mul-put-weight Inv-loop μ-loop
-mul-put-weight c = omega arith
-
-shared-slice-copy-out-put-weight : tie.Need-shared-slice-copy-out-put-weight Inv-loop μ-loop
-shared-slice-copy-out-put-weight c = omega arith
-
 put-weight-requires : tie.Need-put-weight-requires Inv-loop μ-loop
 put-weight-requires c κs = omega (arith, c .before .before .before .loop .inv .1 .long, length-bytesOf (c .before .before .before .before .before .args .s .now))
-
-add-k : tie.Need-add-k Inv-loop μ-loop
-add-k c = omega arith
-
-loop-less : tie.Need-loop-less Inv-loop μ-loop
-loop-less c = omega arith
 
 loop-again : tie.Need-loop-again Inv-loop μ-loop
 loop-again c = let l = c .before .before .before .before .before .before .loop in let a = c .before .before .before .before .before .before .before .before .args in
@@ -54,11 +43,11 @@ encode-spec =
     Inv-loop
     μ-loop
     loop-holds
-    mul-put-weight
-    shared-slice-copy-out-put-weight
+    (λ c. omega arith)
+    (λ c. omega arith)
     put-weight-requires
-    add-k
-    loop-less
+    (λ c. omega arith)
+    (λ c. omega arith)
     loop-again
     same-length
     returns)

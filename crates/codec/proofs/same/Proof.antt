@@ -13,7 +13,8 @@ use Rattle.rules.specs.Tests.{every, eqZ}
 use Rattle.rules.specs.Host.{weightsOf}
 use Rattle.cells.specs.Weight.{sameWeights}
 use Rattle.cells.proofs.Laws.{every-hit, every-miss}
-use Rattle.codec.proofs.Laws.{handed, weightsOf-at}
+use Rattle.meaning.proofs.Bytes.{weightsOf-at}
+use Rattle.codec.proofs.Laws.{handed}
 use Rattle.codec.proofs.same.Statement.{statement}
 use Rattle.codec.proofs.same.Tie as tie
 
@@ -30,15 +31,6 @@ loop-holds : tie.Need-loop-holds Inv-loop μ-loop
 unfolding every
 loop-holds c = (omega arith, refl)
 
-mul-is-same : tie.Need-mul-is-same Inv-loop μ-loop
-mul-is-same c = omega arith
-
-shared-slice-copy-out-is-same : tie.Need-shared-slice-copy-out-is-same Inv-loop μ-loop
-shared-slice-copy-out-is-same c = omega arith
-
-weight-at-requires : tie.Need-weight-at-requires Inv-loop μ-loop
-weight-at-requires c κs = omega arith
-
 is-same-requires : tie.Need-is-same-requires Inv-loop μ-loop
 is-same-requires c κs = tt
 
@@ -51,12 +43,6 @@ told c =
     c .is-same .ensures
     ∙ ap₂ eqZ (toZ-ofZ w16 (getD (a .s .now) (l .k) (pos 0)) (record { sfits = c .before .before .is-same-arg .given }))
     (handed (c .before .weight-at .ok) (c .before .weight-at .ensures) ∙ sym (weightsOf-at (a .b .now) (l .k) (omega arith)))
-
-add-k : tie.Need-add-k Inv-loop μ-loop
-add-k c = omega arith
-
-loop-less : tie.Need-loop-less Inv-loop μ-loop
-loop-less c = omega arith
 
 loop-again : tie.Need-loop-again Inv-loop μ-loop
 loop-again c =
@@ -78,4 +64,4 @@ returns c = let l = c .before .loop in let a = c .before .before .before .args i
 pub same-spec : {M : Type 1} → statement M
 same-spec =
     tie.close
-    (tie.spec Inv-loop μ-loop loop-holds mul-is-same shared-slice-copy-out-is-same weight-at-requires is-same-requires add-k loop-less loop-again returns)
+    (tie.spec Inv-loop μ-loop loop-holds (λ c. omega arith) (λ c. omega arith) (λ c κs. omega arith) is-same-requires (λ c. omega arith) (λ c. omega arith) loop-again returns)

@@ -3,10 +3,10 @@ use mathlib.Core.Path.{_≡_, sym, subst, _∙_, ap}
 use mathlib.Core.Bool.{true, false}
 use Prim.Native.Nat.{_-_, _≤_}
 use lib.Dec.{T}
-use lib.IntN.{ℤ, pos, negsuc, natAbs, _-ℤ_}
+use lib.IntN.{pos, negsuc, natAbs, _-ℤ_}
 use lib.Signed.{ltZ, nonNeg}
 use mir.Syntax.{w16}
-use mir.Val.{SFits, Fits, toZ, ofZ}
+use mir.Val.{Fits, toZ, ofZ}
 use mir.ValLaws.{toZ-ofZ}
 use Rattle.rules.specs.Host.{bits16}
 use Rattle.codec.proofs.Laws.{Neg, neg, not-neg}

@@ -11,38 +11,8 @@ Inv-loop b n of-list k₀ k = k ≤ n
 abbrev μ-loop : tie.MeasureT-loop
 μ-loop b n of-list k₀ k = n - k
 
-loop-holds : tie.Need-loop-holds Inv-loop μ-loop
-loop-holds c = omega arith
-
-mul-at : tie.Need-mul-at Inv-loop μ-loop
-mul-at c = omega arith
-
-add-end : tie.Need-add-end Inv-loop μ-loop
-add-end c = omega arith
-
-sub-record-line : tie.Need-sub-record-line Inv-loop μ-loop
-sub-record-line c = omega arith
-
-part-record-line-start : tie.Need-part-record-line-start Inv-loop μ-loop
-part-record-line-start c = omega arith
-
-part-record-line-end : tie.Need-part-record-line-end Inv-loop μ-loop
-part-record-line-end c = omega arith
-
 record-line-requires : tie.Need-record-line-requires Inv-loop μ-loop
 record-line-requires c κs = let l = c .before .before .loop in part-long (8 * l .k) 8 (c .before .before .before .before .args .b .now) (omega arith)
-
-add-k : tie.Need-add-k Inv-loop μ-loop
-add-k c = omega arith
-
-loop-less : tie.Need-loop-less Inv-loop μ-loop
-loop-less c = omega arith
-
-loop-again : tie.Need-loop-again Inv-loop μ-loop
-loop-again c = omega arith
-
-returns : tie.Need-returns Inv-loop μ-loop
-returns c = tt
 
 pub record-lines-spec : {M : Type 1} → statement M
 record-lines-spec =
@@ -50,14 +20,14 @@ record-lines-spec =
     (tie.spec
     Inv-loop
     μ-loop
-    loop-holds
-    mul-at
-    add-end
-    sub-record-line
-    part-record-line-start
-    part-record-line-end
+    (λ c. omega arith)
+    (λ c. omega arith)
+    (λ c. omega arith)
+    (λ c. omega arith)
+    (λ c. omega arith)
+    (λ c. omega arith)
     record-line-requires
-    add-k
-    loop-less
-    loop-again
-    returns)
+    (λ c. omega arith)
+    (λ c. omega arith)
+    (λ c. omega arith)
+    (λ c. tt))

@@ -1,36 +1,25 @@
 -- `modules::add` meets its contract. The invariant says which columns are done, by the law `add-all` at the end all of the module. Assumes nothing.
 use mathlib.Core.Path.{_≡_}
-use Prim.Native.Nat.{_+_, _-_}
+use Prim.Native.Nat.{ℕ, _+_, _-_}
 use native.Mathlib.Omega.{arith}
 use borrow.Author.Needs.{needs}
-use Rattle.rules.specs.Surface.{rect}
+use Rattle.rules.specs.Surface.{rect, number}
 use Rattle.modules.proofs.Plane.{Adding, walk-none, walk-more, add-all}
 use Rattle.modules.proofs.add.Statement.{statement}
 use Rattle.modules.proofs.add.Tie as tie
 
+-- what the walk gives the cells of column c: the number of a module there, in whichever slot (`returns`)
+abbrev given : ℕ → ℕ → ℕ → ℕ
+given x mw c = x + mw - c
+
 abbrev Inv-loop : tie.InvT-loop
-Inv-loop w h s₀ x y mw mh end c₀ s c = (end ≡ x + mw) × Adding w h (rect x y mw mh) c s₀ s
+Inv-loop w h s₀ x y mw mh end c₀ s c = (end ≡ x + mw) × Adding w h (rect x y mw mh) (given x mw) c s₀ s
 
 abbrev μ-loop : tie.MeasureT-loop
 μ-loop w h s₀ x y mw mh end c₀ s c = end - c
 
-add-end : tie.Need-add-end Inv-loop μ-loop
-add-end c = omega arith
-
 loop-holds : tie.Need-loop-holds Inv-loop μ-loop
 loop-holds c = (omega arith, walk-none _ _ _ _ _ _ _ _)
-
-sub-add-column : tie.Need-sub-add-column Inv-loop μ-loop
-sub-add-column c = omega arith
-
-add-column-requires : tie.Need-add-column-requires Inv-loop μ-loop
-add-column-requires c κs = search needs
-
-add-c : tie.Need-add-c Inv-loop μ-loop
-add-c c = omega arith
-
-loop-less : tie.Need-loop-less Inv-loop μ-loop
-loop-less c = omega arith
 
 loop-again : tie.Need-loop-again Inv-loop μ-loop
 loop-again c = let a = c .before .before .before .before .before .args in let l = c .before .before .before .before .loop in
@@ -40,8 +29,9 @@ same-length : tie.Need-same-length Inv-loop μ-loop
 same-length c = c .before .loop .inv .1 .long
 
 returns : tie.Need-returns Inv-loop μ-loop
-returns c = let a = c .before .before .args in let l = c .before .loop in
-    add-all (a .w) (a .h) (rect (a .x) (a .y) (a .mw) (a .mh)) (a .s .now) (l .s) (l .c) (l .inv .1) (omega arith)
+unfolding number
+returns c i = let a = c .before .before .args in let l = c .before .loop in
+    add-all (a .w) (a .h) (rect (a .x) (a .y) (a .mw) (a .mh)) (a .s .now) (l .s) (given (a .x) (a .mw)) (l .c) (l .inv .1) (omega arith)
 
 pub add-spec : {M : Type 1} → statement M
 add-spec =
@@ -49,12 +39,12 @@ add-spec =
     (tie.spec
     Inv-loop
     μ-loop
-    add-end
+    (λ c. omega arith)
     loop-holds
-    sub-add-column
-    add-column-requires
-    add-c
-    loop-less
+    (λ c. omega arith)
+    (λ c κs. search needs)
+    (λ c. omega arith)
+    (λ c. omega arith)
     loop-again
     same-length
     returns)

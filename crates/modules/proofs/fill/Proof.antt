@@ -22,12 +22,6 @@ abbrev μ-loop : tie.MeasureT-loop
 loop-holds : tie.Need-loop-holds Inv-loop μ-loop
 loop-holds c = (omega arith, fill-none _ _ _ _ _)
 
-add-number : tie.Need-add-number Inv-loop μ-loop
-add-number c = omega arith
-
-number-requires : tie.Need-number-requires Inv-loop μ-loop
-number-requires c κs = omega arith
-
 -- the cell is on the surface
 inside : (c : tie.After-number Inv-loop μ-loop) → c .number .result < length (c .before .before .before .loop .s)
 inside c = let p = c .before .before .before .before in let l = c .before .before .before .loop in
@@ -35,12 +29,6 @@ inside c = let p = c .before .before .before .before in let l = c .before .befor
 
 put-weight-requires : tie.Need-put-weight-requires Inv-loop μ-loop
 put-weight-requires c κs = inside c
-
-add-i : tie.Need-add-i Inv-loop μ-loop
-add-i c = omega arith
-
-loop-less : tie.Need-loop-less Inv-loop μ-loop
-loop-less c = omega arith
 
 loop-again : tie.Need-loop-again Inv-loop μ-loop
 loop-again c = let a = c .before .before .before .before .before .before .args in let l = c .before .before .before .before .before .loop in
@@ -65,11 +53,11 @@ fill-spec =
     Inv-loop
     μ-loop
     loop-holds
-    add-number
-    number-requires
+    (λ c. omega arith)
+    (λ c κs. omega arith)
     put-weight-requires
-    add-i
-    loop-less
+    (λ c. omega arith)
+    (λ c. omega arith)
     loop-again
     same-length
     returns)

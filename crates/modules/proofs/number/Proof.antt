@@ -14,8 +14,5 @@ mul-result c = omega (arith, small c)
 add-result : tie.Need-add-result
 add-result c = omega (arith, small c)
 
-returns : tie.Need-returns
-returns c = omega arith
-
 pub number-spec : {M : Type 1} → statement M
-number-spec = tie.close (tie.spec mul-result add-result returns)
+number-spec = tie.close (tie.spec mul-result add-result (λ c. omega arith))

@@ -20,9 +20,6 @@ abbrev μ-loop : tie.MeasureT-loop
 loop-holds : tie.Need-loop-holds Inv-loop μ-loop
 loop-holds c = (omega arith, omega arith, omega arith, count-none _ _ _ _ _ _)
 
-number-requires : tie.Need-number-requires Inv-loop μ-loop
-number-requires c κs = omega arith
-
 -- the cell is on the surface
 inside : (c : tie.After-number Inv-loop μ-loop) → c .number .result < length (c .before .before .loop .s)
 inside c = let p = c .before .before .before in let l = c .before .before .loop in
@@ -43,17 +40,8 @@ returns c = let a = c .before .before .before .before .before .before .args in l
     count-taken (a .w) (a .h) (a .c) (a .a) (a .k) (l .r) (l .n) (a .s .now) (l .s) (l .inv .3) (l .inv .0) (omega arith)
     (told (c .before) ∙ c .if1 .taken)
 
-add-n : tie.Need-add-n Inv-loop μ-loop
-add-n c = omega arith
-
 put-count-requires : tie.Need-put-count-requires Inv-loop μ-loop
 put-count-requires c κs = (inside (c .before .before .before .before), omega arith)
-
-add-r : tie.Need-add-r Inv-loop μ-loop
-add-r c = omega arith
-
-loop-less : tie.Need-loop-less Inv-loop μ-loop
-loop-less c = omega arith
 
 loop-again : tie.Need-loop-again Inv-loop μ-loop
 loop-again c = let a = c .before .before .before .before .before .before .before .before .before .args in let l = c .before .before .before .before .before .before .before .before .loop in
@@ -82,14 +70,14 @@ recount-spec =
     Inv-loop
     μ-loop
     loop-holds
-    number-requires
+    (λ c κs. omega arith)
     taken-at-requires
     same-length
     returns
-    add-n
+    (λ c. omega arith)
     put-count-requires
-    add-r
-    loop-less
+    (λ c. omega arith)
+    (λ c. omega arith)
     loop-again
     same-length-2
     returns-2)

@@ -15,9 +15,6 @@ Inv-loop w h s₀ x y mw mh end c₀ s c = (end ≡ x + mw) × Removing w h (rec
 abbrev μ-loop : tie.MeasureT-loop
 μ-loop w h s₀ x y mw mh end c₀ s c = end - c
 
-add-end : tie.Need-add-end Inv-loop μ-loop
-add-end c = omega arith
-
 loop-holds : tie.Need-loop-holds Inv-loop μ-loop
 loop-holds c = (omega arith, walk-none _ _ _ _ _ _ _ _)
 
@@ -31,15 +28,9 @@ remove-column-requires c κs = let p = c .before .before .before in let a = p .a
   ),
 )
 
-add-c : tie.Need-add-c Inv-loop μ-loop
-add-c c = omega arith
-
-loop-less : tie.Need-loop-less Inv-loop μ-loop
-loop-less c = omega arith
-
 loop-again : tie.Need-loop-again Inv-loop μ-loop
 loop-again c = let a = c .before .before .before .before .before .args in let l = c .before .before .before .before .loop in
-    (omega arith, walk-more _ _ _ _ _ _ _ (l .c) (a .s .now) (l .s) (c .before .remove-column .last .1 .1 .0) (l .inv .1) (omega arith) (omega arith) (c .before .remove-column .ensures (a .x + a .mw - l .c) .only) ((c .before .remove-column .ensures (a .x + a .mw - l .c)) .told))
+    (omega arith, walk-more _ _ _ _ _ _ _ (l .c) (a .s .now) (l .s) (c .before .remove-column .last .1 .1 .0) (l .inv .1) (omega arith) (omega arith) (c .before .remove-column .ensures .only) (λ p. c .before .remove-column .ensures .told (p .0) (p .1)))
 
 same-length : tie.Need-same-length Inv-loop μ-loop
 same-length c = c .before .loop .inv .1 .long
@@ -54,11 +45,11 @@ remove-spec =
     (tie.spec
     Inv-loop
     μ-loop
-    add-end
+    (λ c. omega arith)
     loop-holds
     remove-column-requires
-    add-c
-    loop-less
+    (λ c. omega arith)
+    (λ c. omega arith)
     loop-again
     same-length
     returns)

@@ -4,24 +4,12 @@ use borrow.Author.Needs.{needs}
 use Rattle.modules.proofs.remove_column.Statement.{statement}
 use Rattle.modules.proofs.remove_column.Tie as tie
 
-run-above-requires : tie.Need-run-above-requires
-run-above-requires c κs = search needs
-
-fill-requires : tie.Need-fill-requires
-fill-requires c κs = search needs
-
-recount-requires : tie.Need-recount-requires
-recount-requires c κs = search needs
-
-same-length : tie.Need-same-length
-same-length c = search needs
-
 returns : tie.Need-returns
-returns c v = let p = c .before .before .before .before .before .before .before .before in let a = p .args in
+returns c = let p = c .before .before .before .before .before .before .before .before in let a = p .args in
     let f = c .before .before .before .before in
-    column-removed (a .w) (a .h) (a .c) (a .y) (a .n) v (a .s .now) (f .fill .last .1 .1 .0) (c .before .recount .last .1 .1 .0) (p .pre .1 .1)
+    column-removed (a .w) (a .h) (a .c) (a .y) (a .n) (a .s .now) (f .fill .last .1 .1 .0) (c .before .recount .last .1 .1 .0) (p .pre .1 .1)
     (f .before .before .run-above .result) (f .fill .ensures) (f .before .before .run-above .ensures) (c .before .recount .ensures)
 
 pub remove-column-spec : {M : Type 1} → statement M
 remove-column-spec =
-    tie.close (tie.spec run-above-requires fill-requires recount-requires same-length returns)
+    tie.close (tie.spec (λ c κs. search needs) (λ c κs. search needs) (λ c κs. search needs) (λ c. search needs) returns)

@@ -11,15 +11,6 @@ use Rattle.modules.proofs.Grid.{on}
 use Rattle.modules.proofs.run_above.Statement.{statement}
 use Rattle.modules.proofs.run_above.Tie as tie
 
-returns : tie.Need-returns
-returns c = search needs
-
-sub-number : tie.Need-sub-number
-sub-number c = search needs
-
-number-requires : tie.Need-number-requires
-number-requires c κs = search needs
-
 count-at-requires : tie.Need-count-at-requires
 count-at-requires c κs = let p = c .before .before in
     omega (arith, on (p .args .w) (p .args .h) (p .args .c) (p .args .r - 1) (omega arith) (omega arith), p .pre .0 .long)
@@ -32,4 +23,4 @@ returns-2 c = let a = c .before .before .before .args in
 
 pub run-above-spec : {M : Type 1} → statement M
 run-above-spec =
-    tie.close (tie.spec returns sub-number number-requires count-at-requires returns-2)
+    tie.close (tie.spec (λ c. search needs) (λ c. search needs) (λ c κs. search needs) count-at-requires returns-2)

@@ -1,8 +1,10 @@
 -- `modules::take_out` meets its contract: the law `take-weights` at what `remove` and `put_record` promise. Assumes nothing.
 use mathlib.Core.Path.{sym, subst}
 use native.Mathlib.Omega.{arith}
-use Rattle.modules.specs.Walk.{On, Shallow, Removed}
-use Rattle.modules.proofs.Changes.{slot-fits, taken-sound, taken-shallow, take-weights}
+use Rattle.meaning.specs.Change.{On}
+use Rattle.modules.specs.Walk.{Shallow, Removed}
+use Rattle.meaning.proofs.Changes.{slot-fits, taken-sound}
+use Rattle.modules.proofs.Weights.{taken-shallow, take-weights}
 use borrow.Author.Needs.{needs}
 use Rattle.modules.proofs.take_out.Statement.{statement}
 use Rattle.modules.proofs.take_out.Tie as tie
@@ -26,12 +28,6 @@ put-record-requires : tie.Need-put-record-requires
 put-record-requires c κs = let p = c .before .before .before .before .before .before .before in
     (slot-fits (p .pre .standing) (p .pre .slot), record { x = omega arith; y = omega arith; w = omega arith; h = omega arith })
 
-same-length : tie.Need-same-length
-same-length c = search needs
-
-same-length-2 : tie.Need-same-length-2
-same-length-2 c = search needs
-
 returns : tie.Need-returns
 returns c =
     let d = c .before .before .before .before .before in
@@ -50,6 +46,6 @@ take-out-spec =
     rect-at-requires
     remove-requires
     put-record-requires
-    same-length
-    same-length-2
+    (λ c. search needs)
+    (λ c. search needs)
     returns)

@@ -3,18 +3,6 @@ use borrow.Author.Needs.{needs}
 use Rattle.requests.proofs.fields.pinned.Statement.{statement}
 use Rattle.requests.proofs.fields.pinned.Tie as tie
 
-byte-requires : tie.Need-byte-requires
-byte-requires c κs = search needs
-
-byte-requires-2 : tie.Need-byte-requires-2
-byte-requires-2 c κs = search needs
-
-byte-requires-3 : tie.Need-byte-requires-3
-byte-requires-3 c κs = search needs
-
-byte-requires-4 : tie.Need-byte-requires-4
-byte-requires-4 c κs = search needs
-
 returns : tie.Need-returns
 returns c = let x = c .before .before .before .byte .ensures in
     let y = c .before .before .byte2 .ensures in
@@ -24,4 +12,4 @@ returns c = let x = c .before .before .before .byte .ensures in
 
 pub pinned-spec : {M : Type 1} → statement M
 pinned-spec =
-    tie.close (tie.spec byte-requires byte-requires-2 byte-requires-3 byte-requires-4 returns)
+    tie.close (tie.spec (λ c κs. search needs) (λ c κs. search needs) (λ c κs. search needs) (λ c κs. search needs) returns)

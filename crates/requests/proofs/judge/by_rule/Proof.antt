@@ -6,10 +6,10 @@ use Rattle.rules.specs.Empties.{cellsEmpty}
 use Rattle.rules.specs.Requests.{ruleOf, wide, high, rulePlace}
 use Rattle.rules.specs.declared.Rect.{Rect}
 use Rattle.meaning.proofs.Choice.{rulePlace-empty}
-use Rattle.modules.specs.Walk.{On}
+use Rattle.meaning.specs.Change.{On}
 use Rattle.modules.proofs.Place.{untaken-empty}
-use Rattle.modules.proofs.Cases.{empty-parts}
-use Rattle.choice.specs.Best.{choiceOf}
+use Rattle.meaning.proofs.Steps.{empty-parts}
+use Rattle.choice.specs.Best.{Chosen}
 use Rattle.requests.proofs.StepLaws.{chose-same, chose-none, chose-some, rule-none, rule-some, on-weights}
 use borrow.Author.Needs.{needs}
 use Rattle.requests.proofs.judge.by_rule.Statement.{statement}
@@ -22,7 +22,7 @@ start c = c .before .before .before .before .before .before
 abbrev place : tie.Start → Option Rect
 place c = let a = c .args in rulePlace (occupied (a .t .now)) (a .w) (a .h) (ruleOf (a .q .now)) (wide (a .q .now)) (high (a .q .now))
 
-chose : (c : tie.After-choose) → c .choose .result ≡ choiceOf (place (start c))
+chose : (c : tie.After-choose) → Chosen (place (start c)) (c .choose .result)
 chose c = chose-same _ _ _ _ _ _ _ _ _ _ (c .choose .ensures) (c .before .before .before .byte .ensures .0) (c .before .before .byte2 .ensures .0) (c .before .byte3 .ensures .0)
 
 abbrev called : tie.After-known-told → tie.After-choose
@@ -42,24 +42,6 @@ tested : (c : tie.After-none-taken) → cellsEmpty (occupied (start (called (c .
 tested c = let a = start (called (c .before)) .args in
     sym (c .none-taken .ensures ∙ untaken-empty (a .w) (a .h) (a .s .now) (a .t .now) (start (called (c .before)) .pre .0) _ (on (c .before)))
 
-byte-requires : tie.Need-byte-requires
-byte-requires c κs = search needs
-
-byte-requires-2 : tie.Need-byte-requires-2
-byte-requires-2 c κs = search needs
-
-byte-requires-3 : tie.Need-byte-requires-3
-byte-requires-3 c κs = search needs
-
-choose-requires : tie.Need-choose-requires
-choose-requires c κs = search needs
-
-enum-known-c : tie.Need-enum-known-c
-enum-known-c c = search needs
-
-enum-told : tie.Need-enum-told
-enum-told c = search needs
-
 returns : tie.Need-returns
 returns c = rule-none _ _ _ (chose-none _ _ (chose (c .before .before)) (c .enum-told .given .1))
 
@@ -76,12 +58,12 @@ pub by-rule-spec : {M : Type 1} → statement M
 by-rule-spec =
     tie.close
     (tie.spec
-    byte-requires
-    byte-requires-2
-    byte-requires-3
-    choose-requires
-    enum-known-c
-    enum-told
+    (λ c κs. search needs)
+    (λ c κs. search needs)
+    (λ c κs. search needs)
+    (λ c κs. search needs)
+    (λ c. search needs)
+    (λ c. search needs)
     returns
     none-taken-requires
     returns-2

@@ -6,17 +6,11 @@ use borrow.Author.Needs.{needs}
 use Rattle.requests.proofs.judge.is_past.Statement.{statement}
 use Rattle.requests.proofs.judge.is_past.Tie as tie
 
-add-if1 : tie.Need-add-if1
-add-if1 c = search needs
-
 returns : tie.Need-returns
 returns c = sym (or-left _ _ (lt-ltb _ _ (c .if1 .taken)))
-
-add-result : tie.Need-add-result
-add-result c = search needs
 
 returns-2 : tie.Need-returns-2
 returns-2 c = sym (or-is _ _ _ (le-ltb _ _ (c .before .if1 .left)) refl)
 
 pub is-past-spec : {M : Type 1} → statement M
-is-past-spec = tie.close (tie.spec add-if1 returns add-result returns-2)
+is-past-spec = tie.close (tie.spec (λ c. search needs) returns (λ c. search needs) returns-2)

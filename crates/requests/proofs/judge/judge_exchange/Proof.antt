@@ -3,13 +3,13 @@ use mathlib.Core.Path.{_≡_, refl, sym, ap, _∙_}
 use Prim.Native.Nat.{_+_, _*_, _≤_}
 use native.Mathlib.Omega.{arith}
 use lib.ListN.{length, getD}
-use Rattle.rules.specs.Surface.{byte, withRecord, freeRecord}
+use Rattle.rules.specs.Surface.{byte, withRecord, freeRecord, fresh}
 use Rattle.rules.specs.Requests.{slotOf, idAsked, ground, stepOf}
-use Rattle.modules.specs.Change.{Taking}
-use Rattle.modules.proofs.Changes.{slot-fits, take-left}
-use Rattle.modules.proofs.Exchange.{back-placing, back-left}
-use Rattle.modules.proofs.Cases.{ground-for}
-use Rattle.requests.proofs.StepLaws.{rule-le, size-some, exchange-by, exchange-old, by-sized, old-taking, exchange-rule, judged-refused, judged-done}
+use Rattle.meaning.specs.Change.{Taking}
+use Rattle.meaning.proofs.Changes.{slot-fits, take-left, back-placing, back-left}
+use Rattle.meaning.proofs.Steps.{ground-for}
+use Rattle.meaning.proofs.Operations.{rule-le, size-some, exchange-by, exchange-old, by-sized, old-taking}
+use Rattle.requests.proofs.StepLaws.{exchange-rule, judged-by}
 use borrow.Author.Needs.{needs}
 use Rattle.requests.proofs.judge.judge_exchange.Statement.{statement}
 use Rattle.requests.proofs.judge.judge_exchange.Tie as tie
@@ -23,7 +23,7 @@ slot c = c .slot-of .ensures ∙ ap (slotOf (start c .args .t .now)) (c .before 
 
 taking : (c : tie.After-slot-of) → let a = start c .args in Taking (a .w) (a .h) (a .s .now) (a .t .now) (c .slot-of .result)
 taking c = let p = start c .pre in
-    old-taking _ _ _ _ _ (p .0) (p .1 .1) (exchange-old (start c .args .q .now) (p .1 .2)) _ (slot c)
+    old-taking _ _ (p .1 .1) _ _ _ (p .0) (exchange-old (start c .args .q .now) (p .1 .2)) _ (slot c)
 
 fits : (c : tie.After-slot-of) → 8 * c .slot-of .result + 8 ≤ length (start c .args .t .now)
 fits c = slot-fits (start c .pre .0) (taking c .slot)
@@ -54,12 +54,6 @@ step c =
     let p = start (found g) in
     exchange-rule (p .args .w) (p .args .h) (p .args .t .now) (p .args .q .now) (p .pre .1 .1) (p .pre .1 .2) _ (slot (found g)) _ (ground-is g) _ (c .by-rule .ensures)
 
-id-asked-requires : tie.Need-id-asked-requires
-id-asked-requires c κs = search needs
-
-slot-of-requires : tie.Need-slot-of-requires
-slot-of-requires c κs = search needs
-
 mul-at : tie.Need-mul-at
 mul-at c = omega (arith, low c .0)
 
@@ -86,24 +80,12 @@ by-rule-requires c κs = let g = c .before .before .before .before .before in
     let z = size-some _ _ (p .1 .1) (by-sized (start f .args .q .now) r) in
     (take-left _ _ _ _ _ (taking f) _ _ (g .take-out .ensures .0) (g .take-out .ensures .1), (p .1 .0, rule-le _ _ (p .1 .1) r, z .0, z .1))
 
-enum-told : tie.Need-enum-told
-enum-told c = search needs
-
-enum-told-2 : tie.Need-enum-told-2
-enum-told-2 c = search needs
-
 put-in-requires : tie.Need-put-in-requires
 put-in-requires c κs = let g = gone (c .before .before .before .before) in
     let f = found g in
     let t = start f .args .t .now in
     back-placing _ _ _ _ _ (taking f) _ _ _ (ap (λ l. l + 256 * byte t (f .slot-of .result) 1) (first-byte f)) (g .before .before .before .rect-at .ensures) _ _
     (g .take-out .ensures .0) (g .take-out .ensures .1)
-
-same-length : tie.Need-same-length
-same-length c = search needs
-
-same-length-2 : tie.Need-same-length-2
-same-length-2 c = search needs
 
 returns : tie.Need-returns
 returns c = let p = c .before .before .before in
@@ -112,25 +94,20 @@ returns c = let p = c .before .before .before in
     let g = gone k in
     let f = found g in
     let b = back-left _ _ _ _ _ (taking f) _ _ _ (first-byte f) refl (g .before .before .before .rect-at .ensures) _ (g .take-out .ensures .0) _ _ (p .put-in .ensures .0) (p .put-in .ensures .1) in
-    judged-refused _ _ _ _ _ _ (step k) _ _ _ (m .enum-told2 .given .1) (b .1) (b .0)
-
-same-length-3 : tie.Need-same-length-3
-same-length-3 c = search needs
-
-same-length-4 : tie.Need-same-length-4
-same-length-4 c = search needs
+    judged-by _ _ _ _ _ _ (step k) _ _ _ (m .enum-told2 .given .1) (b .1) (b .0)
 
 returns-2 : tie.Need-returns-2
 returns-2 c = let k = c .before .before in
     let g = gone k in
-    judged-done _ _ _ _ _ _ (step k) _ _ _ _ (c .enum-told .given .1) (g .take-out .ensures .1) (ground-is g)
+    let a = start (found g) .args in
+    judged-by _ _ _ _ _ _ (step k) _ _ _ (c .enum-told .given .1) (g .take-out .ensures .1 ∙ ap (fresh (a .w) (a .h)) (ground-is g)) (ground-is g)
 
 pub judge-exchange-spec : {M : Type 1} → statement M
 judge-exchange-spec =
     tie.close
     (tie.spec
-    id-asked-requires
-    slot-of-requires
+    (λ c κs. search needs)
+    (λ c κs. search needs)
     mul-at
     slice-read-low
     add-high
@@ -138,12 +115,12 @@ judge-exchange-spec =
     rect-at-requires
     take-out-requires
     by-rule-requires
-    enum-told
-    enum-told-2
+    (λ c. search needs)
+    (λ c. search needs)
     put-in-requires
-    same-length
-    same-length-2
+    (λ c. search needs)
+    (λ c. search needs)
     returns
-    same-length-3
-    same-length-4
+    (λ c. search needs)
+    (λ c. search needs)
     returns-2)

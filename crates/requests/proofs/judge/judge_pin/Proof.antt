@@ -1,13 +1,15 @@
 -- `requests::judge::judge_pin` meets its contract. Assumes nothing.
-use mathlib.Core.Path.{_≡_, sym, ap, _∙_, subst, ap₂}
+use mathlib.Core.Path.{_≡_, refl, sym, ap, _∙_, subst, ap₂}
+use mathlib.Core.Bool.{true, false}
 use Rattle.rules.specs.Surface.{occupied}
 use Rattle.rules.specs.Empties.{cellsEmpty}
 use Rattle.rules.specs.Requests.{pinned}
 use Rattle.rules.specs.declared.Step.the-variants.{Done}
-use Rattle.modules.specs.Walk.{On}
+use Rattle.meaning.specs.Change.{On}
 use Rattle.modules.proofs.Place.{untaken-empty}
 use Rattle.requests.specs.Steps.{past}
-use Rattle.requests.proofs.StepLaws.{none-free, one-free, size-some, pin-sized, past-on, on-weights, pin-past, pin-full, pin-taken, pin-done}
+use Rattle.meaning.proofs.Operations.{none-free, one-free, size-some, pin-sized}
+use Rattle.requests.proofs.StepLaws.{past-on, on-weights, pin-tested}
 use borrow.Author.Needs.{needs}
 use Rattle.requests.proofs.judge.judge_pin.Statement.{statement}
 use Rattle.requests.proofs.judge.judge_pin.Tie as tie
@@ -37,22 +39,16 @@ tested c =
     ∙ untaken-empty (a .w) (a .h) (a .s .now) (a .t .now) (start k .pre .0) _ (subst (On (a .w) (a .h)) (sym (is k)) (on (c .before .before .before)))
     ∙ ap (cellsEmpty (occupied (a .t .now))) (is k))
 
-pinned-requires : tie.Need-pinned-requires
-pinned-requires c κs = search needs
-
 is-past-requires : tie.Need-is-past-requires
 is-past-requires c κs = c .pinned .ensures .1
 
 returns : tie.Need-returns
-returns c = let p = start (c .before) .pre in pin-past _ _ _ _ (p .1 .1) (p .1 .2) (told (c .before) ∙ c .if1 .taken)
-
-lowest-free-requires : tie.Need-lowest-free-requires
-lowest-free-requires c κs = search needs
+returns c = let p = start (c .before) .pre in pin-tested _ _ _ _ (p .1 .1) (p .1 .2) true _ _ (told (c .before) ∙ c .if1 .taken) refl refl
 
 returns-2 : tie.Need-returns-2
 returns-2 c = let k = c .before .before in
     let p = start (k .before) .pre in
-    pin-full _ _ _ _ (p .1 .1) (p .1 .2) (told (k .before) ∙ k .if1 .left) (none-free _ _ (c .before .lowest-free .ensures) (c .if2 .taken))
+    pin-tested _ _ _ _ (p .1 .1) (p .1 .2) false false _ (told (k .before) ∙ k .if1 .left) (none-free _ _ (c .before .lowest-free .ensures) (c .if2 .taken)) refl
 
 none-taken-requires : tie.Need-none-taken-requires
 none-taken-requires c κs = let k = c .before .before in
@@ -64,22 +60,22 @@ returns-3 c = let f = c .before .before .before in
     let k = f .before in
     let p = start (k .before) .pre in
     ap₂ Done (f .lowest-free .ensures) (is (k .before))
-    ∙ pin-done _ _ _ _ (p .1 .1) (p .1 .2) (told (k .before) ∙ k .if1 .left) (one-free _ _ (f .lowest-free .ensures) (c .before .before .if2 .left)) (tested (c .before) ∙ c .if3 .taken)
+    ∙ pin-tested _ _ _ _ (p .1 .1) (p .1 .2) false true true (told (k .before) ∙ k .if1 .left) (one-free _ _ (f .lowest-free .ensures) (c .before .before .if2 .left)) (tested (c .before) ∙ c .if3 .taken)
 
 returns-4 : tie.Need-returns-4
 returns-4 c = let f = c .before .before .before in
     let k = f .before in
     let p = start (k .before) .pre in
-    pin-taken _ _ _ _ (p .1 .1) (p .1 .2) (told (k .before) ∙ k .if1 .left) (one-free _ _ (f .lowest-free .ensures) (c .before .before .if2 .left)) (tested (c .before) ∙ c .if3 .left)
+    pin-tested _ _ _ _ (p .1 .1) (p .1 .2) false true false (told (k .before) ∙ k .if1 .left) (one-free _ _ (f .lowest-free .ensures) (c .before .before .if2 .left)) (tested (c .before) ∙ c .if3 .left)
 
 pub judge-pin-spec : {M : Type 1} → statement M
 judge-pin-spec =
     tie.close
     (tie.spec
-    pinned-requires
+    (λ c κs. search needs)
     is-past-requires
     returns
-    lowest-free-requires
+    (λ c κs. search needs)
     returns-2
     none-taken-requires
     returns-3

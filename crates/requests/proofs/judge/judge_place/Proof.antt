@@ -1,11 +1,9 @@
 -- `requests::judge::judge_place` meets its contract. Assumes nothing.
-use Rattle.requests.proofs.StepLaws.{none-free, one-free, rule-le, size-some, place-by, by-sized, place-full, place-rule}
+use Rattle.meaning.proofs.Operations.{none-free, one-free, rule-le, size-some, place-by, by-sized}
+use Rattle.requests.proofs.StepLaws.{place-full, place-rule}
 use borrow.Author.Needs.{needs}
 use Rattle.requests.proofs.judge.judge_place.Statement.{statement}
 use Rattle.requests.proofs.judge.judge_place.Tie as tie
-
-lowest-free-requires : tie.Need-lowest-free-requires
-lowest-free-requires c κs = search needs
 
 returns : tie.Need-returns
 returns c = let p = c .before .before .before .before in
@@ -24,4 +22,4 @@ returns-2 c = let p = c .before .before .before .before .before in
     place-rule _ _ _ _ (p .pre .1 .1) (p .pre .1 .2) (one-free _ _ f (c .before .if1 .left)) _ f _ (c .by-rule .ensures)
 
 pub judge-place-spec : {M : Type 1} → statement M
-judge-place-spec = tie.close (tie.spec lowest-free-requires returns by-rule-requires returns-2)
+judge-place-spec = tie.close (tie.spec (λ c κs. search needs) returns by-rule-requires returns-2)

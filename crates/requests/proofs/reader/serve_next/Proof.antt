@@ -73,10 +73,7 @@ module _ {M : Type 1} (𝓤 : URA M) (H : Heap 𝓤) (A : Atoms 𝓤) (W : Given
     abbrev mach : Val
     mach = T′.lowered d
 
-    abbrev Arg : Type 0
-    Arg = Reader × (ℕ × (ℕ × (RefT (List ℤ) × (RefT (List ℕ) × (RefT (List ℕ) × Unit {0})))))
-
-    abbrev args : Arg
+    abbrev args : Reader × (ℕ × (ℕ × (RefT (List ℤ) × (RefT (List ℕ) × (RefT (List ℕ) × Unit {0})))))
     args = (d, (w, (h, (s, (t, (a, tt))))))
 
     abbrev vals : Vals serve-next.signature κs
@@ -86,10 +83,7 @@ module _ {M : Type 1} (𝓤 : URA M) (H : Heap 𝓤) (A : Atoms 𝓤) (W : Given
     Post = walkOf 𝓤 H A serve-next.ended stayed (serve-next.clauses 𝓤 H A mem run) .post ((κs, (q, (q′, tt)), tt, args, vals), tt)
 
     -- what the callee is passed
-    abbrev Passed : Type 0
-    Passed = RefT (List ℕ) × (ℕ × (ℕ × (ℕ × (RefT (List ℤ) × (RefT (List ℕ) × (RefT (List ℕ) × Unit {0}))))))
-
-    abbrev passed : Passed
+    abbrev passed : RefT (List ℕ) × (ℕ × (ℕ × (ℕ × (RefT (List ℤ) × (RefT (List ℕ) × (RefT (List ℕ) × Unit {0}))))))
     passed = (d .block, (d .at, (w, (h, (s, (t, (a, tt)))))))
 
     abbrev to : ServeAt .Ghost

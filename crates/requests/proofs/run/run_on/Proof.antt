@@ -4,7 +4,7 @@
 --     turns        a turn: one request more, or the loop is left and the rest of the body runs
 -- Assumes nothing.
 use mathlib.Core.Path.{_≡_, refl, sym, ap, _∙_, subst}
-use Prim.Native.Nat.{ℕ, _+_, _-_, _*_, _≤_, _<_, _^_}
+use Prim.Native.Nat.{ℕ, suc, _+_, _*_, _≤_, _<_, _^_}
 use native.Mathlib.Omega.{arith}
 use mathlib.Core.Bool.{Bool, not}
 use mathlib.Core.List.{List, [], _∷_}
@@ -123,10 +123,7 @@ module _ {M : Type 1} (𝓤 : URA M) (H : Heap 𝓤) (A : Atoms 𝓤) (W : Given
     abbrev G : Type 0
     G = Gone c
 
-    abbrev Arg : Type 0
-    Arg = ℕ × (ℕ × (RefT (List ℤ) × (RefT (List ℕ) × (RefT (List ℕ) × (RefT (List ℕ) × Unit {0})))))
-
-    abbrev args : Arg
+    abbrev args : ℕ × (ℕ × (RefT (List ℤ) × (RefT (List ℕ) × (RefT (List ℕ) × (RefT (List ℕ) × Unit {0})))))
     args = (w, (h, (s, (t, (b, (a, tt))))))
 
     abbrev vals : Vals run-on.signature (κs, (κt, (κb, (κa, tt))))
@@ -232,8 +229,8 @@ module _ {M : Type 1} (𝓤 : URA M) (H : Heap 𝓤) (A : Atoms 𝓤) (W : Given
     begun : (u : Val) → ent 𝓤 (Begin .post to-begin u) (H .⇛ (guard 𝓤 (u ≡ T′.lowered (rd 0)) (⋆ 𝓤 H A (token ∷ []))))
     begun = got 0 0 refl (ensured 𝓤 H A begin.ended (begin.clauses 𝓤 H A mem run) (κb, tt) (b, tt) tt) (λ d. exE 𝓤 _ (λ ws. snd∗ 𝓤 (sem 𝓤 H A (lasts begin.ended (κb, tt) (b, tt) ws)) _))
 
-    moved : (k : ℕ) (u : Val) → ent 𝓤 (Next .post (to-next k) u) (H .⇛ (guard 𝓤 (u ≡ T′.lowered (rd (k + 1))) (⋆ 𝓤 H A (token ∷ []))))
-    moved k = got (k + 1) (8 * k + 8) (omega arith) (ensured 𝓤 H A next.ended (next.clauses 𝓤 H A mem run) (κb, tt) (rd k, tt) tt) (λ d. exE 𝓤 _ (λ ws. snd∗ 𝓤 (sem 𝓤 H A (lasts next.ended (κb, tt) (rd k, tt) ws)) _))
+    moved : (k : ℕ) (u : Val) → ent 𝓤 (Next .post (to-next k) u) (H .⇛ (guard 𝓤 (u ≡ T′.lowered (rd (suc k))) (⋆ 𝓤 H A (token ∷ []))))
+    moved k = got (suc k) (8 * k + 8) (omega arith) (ensured 𝓤 H A next.ended (next.clauses 𝓤 H A mem run) (κb, tt) (rd k, tt) tt) (λ d. exE 𝓤 _ (λ ws. snd∗ 𝓤 (sem 𝓤 H A (lasts next.ended (κb, tt) (rd k, tt) ws)) _))
 
     -- ---- the call of `serve_next`, with the buffers lent again for ν under the names γ
     module _ (i : G) (ν : ℕ) (γ : Names) where
@@ -252,10 +249,7 @@ module _ {M : Type 1} (𝓤 : URA M) (H : Heap 𝓤) (A : Atoms 𝓤) (W : Given
       abbrev both : Item 𝓤
       both = ‵ (flft κb qb) ⊛ ‵ (flft (ν ∷ []) fullShare) ⊛ ‵ ftrue
 
-      abbrev Sent : Type 0
-      Sent = Reader × (ℕ × (ℕ × (RefT (List ℤ) × (RefT (List ℕ) × (RefT (List ℕ) × Unit {0})))))
-
-      abbrev sent : Sent
+      abbrev sent : Reader × (ℕ × (ℕ × (RefT (List ℤ) × (RefT (List ℕ) × (RefT (List ℕ) × Unit {0})))))
       sent = (rd (i .k), (w, (h, (S, (T₁, (A₁, tt))))))
 
       abbrev to-serve : ServeNext .Ghost
@@ -333,7 +327,7 @@ module _ {M : Type 1} (𝓤 : URA M) (H : Heap 𝓤) (A : Atoms 𝓤) (W : Given
             assigns ! (of-opd ! (load ! (from ! (stop !)) (look ! 27 refl))) (from ! (stop !)) (init ! 3 refl (typed i)) $
             -- `next`
             move ! (2 ∷ 0 ∷ []) $ use2 W (passed (i .k) ⊛ block) (passes (i .k) (at-fits c i)) $ split ! $ use1 W (raw (Next .pre (to-next (i .k)))) (asks-next (i .k) (inside c i less)) $
-            calls-at-last ! (fmOf 𝓤 H (W .laws) 𝓣) Next known-next (to-next (i .k)) (and-then ! (load ! (from ! (stop !)) (look ! 3 refl)) (no-more !)) (λ y. use1 W (later (given (y ≡ T′.lowered (rd (i .k + 1))) token)) (moved (i .k) y) $ await ! tt $ learn ! (λ g.
+            calls-at-last ! (fmOf 𝓤 H (W .laws) 𝓣) Next known-next (to-next (i .k)) (and-then ! (load ! (from ! (stop !)) (look ! 3 refl)) (no-more !)) (λ y. use1 W (later (given (y ≡ T′.lowered (rd (suc (i .k)))) token)) (moved (i .k) y) $ await ! tt $ learn ! (λ g.
             land-last ! (from ! (stop !)) (store ! 27 refl (subst (λ v. Holds (hasTy reader v) × WT v) (sym g) (typed (one-more c i less x (f .1))))) $ rewrite ! 27 (λ (v : Val). ‵ (fat fullShare reader l₇ 0 v)) g refl $
             forget ! 3 refl $ forget ! 5 refl $ forget ! 7 refl $ forget ! 9 refl $ forget ! 11 refl $ forget ! 13 refl $ forget ! 15 refl $ forget ! 17 refl $ forget ! 19 refl $ forget ! 21 refl $ forget ! 23 refl $
             move ! (2 ∷ 1 ∷ 0 ∷ []) $ again ! (Upto c) At i (one-more c i less x (f .1)) (nearer c i less (one-more c i less x (f .1)) refl)))))))))

@@ -6,47 +6,14 @@ use borrow.Author.Needs.{needs}
 use Rattle.requests.proofs.serve.answer.Statement.{statement}
 use Rattle.requests.proofs.serve.answer.Tie as tie
 
-slice-write-a : tie.Need-slice-write-a
-slice-write-a c = search needs
-
-shared-slice-read-a : tie.Need-shared-slice-read-a
-shared-slice-read-a c = search needs
-
-slice-write-a-2 : tie.Need-slice-write-a-2
-slice-write-a-2 c = search needs
-
-shared-slice-read-a-2 : tie.Need-shared-slice-read-a-2
-shared-slice-read-a-2 c = search needs
-
-slice-write-a-3 : tie.Need-slice-write-a-3
-slice-write-a-3 c = search needs
-
-shared-slice-read-a-3 : tie.Need-shared-slice-read-a-3
-shared-slice-read-a-3 c = search needs
-
-slice-write-a-4 : tie.Need-slice-write-a-4
-slice-write-a-4 c = search needs
-
-byte-of-requires : tie.Need-byte-of-requires
-byte-of-requires c κs = search needs
-
 slice-write-a-5 : tie.Need-slice-write-a-5
 slice-write-a-5 c = simp length-set (omega (arith, c .before .before .before .before .before .before .pre .0 .1))
-
-byte-of-requires-2 : tie.Need-byte-of-requires-2
-byte-of-requires-2 c κs = search needs
 
 slice-write-a-6 : tie.Need-slice-write-a-6
 slice-write-a-6 c = simp length-set (omega (arith, c .before .before .before .before .before .before .before .pre .0 .1))
 
-byte-of-requires-3 : tie.Need-byte-of-requires-3
-byte-of-requires-3 c κs = search needs
-
 slice-write-a-7 : tie.Need-slice-write-a-7
 slice-write-a-7 c = simp length-set (omega (arith, c .before .before .before .before .before .before .before .before .pre .0 .1))
-
-byte-of-requires-4 : tie.Need-byte-of-requires-4
-byte-of-requires-4 c κs = search needs
 
 slice-write-a-8 : tie.Need-slice-write-a-8
 slice-write-a-8 c = simp length-set (omega (arith, c .before .before .before .before .before .before .before .before .before .pre .0 .1))
@@ -63,20 +30,20 @@ pub answer-spec : {M : Type 1} → statement M
 answer-spec =
     tie.close
     (tie.spec
-    slice-write-a
-    shared-slice-read-a
-    slice-write-a-2
-    shared-slice-read-a-2
-    slice-write-a-3
-    shared-slice-read-a-3
-    slice-write-a-4
-    byte-of-requires
+    (λ c. search needs)
+    (λ c. search needs)
+    (λ c. search needs)
+    (λ c. search needs)
+    (λ c. search needs)
+    (λ c. search needs)
+    (λ c. search needs)
+    (λ c κs. search needs)
     slice-write-a-5
-    byte-of-requires-2
+    (λ c κs. search needs)
     slice-write-a-6
-    byte-of-requires-3
+    (λ c κs. search needs)
     slice-write-a-7
-    byte-of-requires-4
+    (λ c κs. search needs)
     slice-write-a-8
     same-length
     returns)

@@ -1,8 +1,9 @@
 -- `requests::serve::serve` meets its contract. Assumes nothing.
 use mathlib.Core.Path.{ap, _∙_}
 use mathlib.Core.List.{[], _∷_}
+use Rattle.rules.specs.Surface.{fresh}
 use Rattle.rules.specs.Requests.{operation, idLow, idHigh, codeOf}
-use Rattle.requests.proofs.Accepted.{Accepted, on-bytes, refused-left, done-left, may-change, served-refused, served-done}
+use Rattle.requests.proofs.Accepted.{Accepted, on-bytes, judged-to, may-change, served-by}
 use borrow.Author.Needs.{needs}
 use Rattle.requests.proofs.serve.serve.Statement.{statement}
 use Rattle.requests.proofs.serve.serve.Tie as tie
@@ -20,37 +21,13 @@ may : (c : tie.After-d) →
     Accepted (a .w) (a .h) (a .q .now) (a .t .now) (c .d .given .0 .0) (c .d .given .0 .1 .0) (k .judge .last .1 .1 .0) (k .judge .last .1 .1 .1 .0)
 may c = let k = judged c in may-change _ _ _ _ _ _ _ _ (k .judge .ensures) (start k .pre .0) _ _ (c .d .given .1)
 
-judge-requires : tie.Need-judge-requires
-judge-requires c κs = search needs
-
-enum-known-d : tie.Need-enum-known-d
-enum-known-d c = search needs
-
-enum-told : tie.Need-enum-told
-enum-told c = search needs
-
-code-of-requires : tie.Need-code-of-requires
-code-of-requires c κs = search needs
-
-answer-requires : tie.Need-answer-requires
-answer-requires c κs = search needs
-
-same-length : tie.Need-same-length
-same-length c = search needs
-
-same-length-2 : tie.Need-same-length-2
-same-length-2 c = search needs
-
-same-length-3 : tie.Need-same-length-3
-same-length-3 c = search needs
-
 returns : tie.Need-returns
 returns c = let v = c .before .before in
     let m = v .before .before .before in
     let k = m .before .before .before .before .before in
     let q = start k .args .q .now in
-    let l = refused-left _ _ _ _ _ _ _ _ (k .judge .ensures) _ (m .enum-told .given .1) in
-    served-refused _ _ _ _ _ _ _ _ _ (l .0) (l .1) (l .2)
+    let l = judged-to _ _ _ _ _ _ _ _ (k .judge .ensures) _ (m .enum-told .given .1) in
+    served-by _ _ _ _ _ _ _ _ _ (l .0) (l .1) (l .2)
     (v .answer .ensures ∙ ap (λ n. n ∷ operation q ∷ idLow q ∷ idHigh q ∷ 0 ∷ 0 ∷ 0 ∷ 0 ∷ []) (v .before .code-of .ensures ∙ ap codeOf (m .enum-told .given .1)))
 
 change-requires : tie.Need-change-requires
@@ -62,39 +39,32 @@ answer-requires-2 c κs = let d = c .before .before .before .before .before .bef
     let p = start (judged d) .pre in
     (p .1, on-bytes _ _ _ _ _ (p .0) (may d .changing .place))
 
-same-length-4 : tie.Need-same-length-4
-same-length-4 c = search needs
-
-same-length-5 : tie.Need-same-length-5
-same-length-5 c = search needs
-
-same-length-6 : tie.Need-same-length-6
-same-length-6 c = search needs
-
 returns-2 : tie.Need-returns-2
 returns-2 c = let v = c .before .before in
     let g = v .before .before .before .before .before in
     let d = g .before .before .before .before in
     let k = judged d in
-    let l = done-left _ _ _ _ _ _ _ _ (k .judge .ensures) _ _ (d .d .given .1) in
-    served-done _ _ _ _ _ _ _ _ _ _ (l .0) (g .change .ensures .0 ∙ may d .over) (g .change .ensures .1) (v .answer2 .ensures)
+    let l = judged-to _ _ _ _ _ _ _ _ (k .judge .ensures) _ (d .d .given .1) in
+    let e = g .change .ensures .0 ∙ may d .over in
+    let a = start k .args in
+    served-by _ _ _ _ _ _ _ _ _ (l .0) (g .change .ensures .1 ∙ ap (fresh (a .w) (a .h)) e) e (v .answer2 .ensures)
 
 pub serve-spec : {M : Type 1} → statement M
 serve-spec =
     tie.close
     (tie.spec
-    judge-requires
-    enum-known-d
-    enum-told
-    code-of-requires
-    answer-requires
-    same-length
-    same-length-2
-    same-length-3
+    (λ c κs. search needs)
+    (λ c. search needs)
+    (λ c. search needs)
+    (λ c κs. search needs)
+    (λ c κs. search needs)
+    (λ c. search needs)
+    (λ c. search needs)
+    (λ c. search needs)
     returns
     change-requires
     answer-requires-2
-    same-length-4
-    same-length-5
-    same-length-6
+    (λ c. search needs)
+    (λ c. search needs)
+    (λ c. search needs)
     returns-2)

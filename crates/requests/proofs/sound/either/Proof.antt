@@ -4,18 +4,12 @@ use borrow.Author.Needs.{needs}
 use Rattle.requests.proofs.sound.either.Statement.{statement}
 use Rattle.requests.proofs.sound.either.Tie as tie
 
-shared-slice-read-if1 : tie.Need-shared-slice-read-if1
-shared-slice-read-if1 c = search needs
-
 returns : tie.Need-returns
 returns c = simp (eq-eqb _ _ (c .if1 .taken))
-
-shared-slice-read-result : tie.Need-shared-slice-read-result
-shared-slice-read-result c = search needs
 
 returns-2 : tie.Need-returns-2
 returns-2 c = simp (ne-eqb _ _ (c .before .if1 .left))
 
 pub either-spec : {M : Type 1} → statement M
 either-spec =
-    tie.close (tie.spec shared-slice-read-if1 returns shared-slice-read-result returns-2)
+    tie.close (tie.spec (λ c. search needs) returns (λ c. search needs) returns-2)

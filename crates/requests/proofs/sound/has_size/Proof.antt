@@ -4,17 +4,11 @@ use borrow.Author.Needs.{needs}
 use Rattle.requests.proofs.sound.has_size.Statement.{statement}
 use Rattle.requests.proofs.sound.has_size.Tie as tie
 
-either-requires : tie.Need-either-requires
-either-requires c κs = search needs
-
 returns : tie.Need-returns
 returns c = simp (sym (c .before .either .ensures) ∙ c .if1 .taken)
-
-shared-slice-read-result : tie.Need-shared-slice-read-result
-shared-slice-read-result c = search needs
 
 returns-2 : tie.Need-returns-2
 returns-2 c = simp (sym (c .before .before .either .ensures) ∙ c .before .if1 .left)
 
 pub has-size-spec : {M : Type 1} → statement M
-has-size-spec = tie.close (tie.spec either-requires returns shared-slice-read-result returns-2)
+has-size-spec = tie.close (tie.spec (λ c κs. search needs) returns (λ c. search needs) returns-2)

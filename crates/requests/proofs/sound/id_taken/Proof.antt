@@ -5,12 +5,6 @@ use borrow.Author.Needs.{needs}
 use Rattle.requests.proofs.sound.id_taken.Statement.{statement}
 use Rattle.requests.proofs.sound.id_taken.Tie as tie
 
-either-requires : tie.Need-either-requires
-either-requires c κs = search needs
-
-placed-requires : tie.Need-placed-requires
-placed-requires c κs = search needs
-
 returns : tie.Need-returns
 returns c = c .placed .ensures ∙ sym (and-is _ _ _ (sym (c .before .before .either .ensures) ∙ c .before .if1 .taken) refl)
 
@@ -18,4 +12,4 @@ returns-2 : tie.Need-returns-2
 returns-2 c = sym (and-no _ _ (sym (c .before .either .ensures) ∙ c .if1 .left))
 
 pub id-taken-spec : {M : Type 1} → statement M
-id-taken-spec = tie.close (tie.spec either-requires placed-requires returns returns-2)
+id-taken-spec = tie.close (tie.spec (λ c κs. search needs) (λ c κs. search needs) returns returns-2)

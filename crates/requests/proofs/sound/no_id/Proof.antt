@@ -5,11 +5,8 @@ use borrow.Author.Needs.{needs}
 use Rattle.requests.proofs.sound.no_id.Statement.{statement}
 use Rattle.requests.proofs.sound.no_id.Tie as tie
 
-id-asked-requires : tie.Need-id-asked-requires
-id-asked-requires c κs = search needs
-
 returns : tie.Need-returns
 returns c = ap (λ n. eqb n 0) (c .id-asked .ensures .0)
 
 pub no-id-spec : {M : Type 1} → statement M
-no-id-spec = tie.close (tie.spec id-asked-requires returns)
+no-id-spec = tie.close (tie.spec (λ c κs. search needs) returns)

@@ -7,20 +7,11 @@ use borrow.Author.Needs.{needs}
 use Rattle.requests.proofs.sound.no_size.Statement.{statement}
 use Rattle.requests.proofs.sound.no_size.Tie as tie
 
-has-size-requires : tie.Need-has-size-requires
-has-size-requires c κs = search needs
-
 returns : tie.Need-returns
 returns c = sym (and-no _ _ (sym (c .before .has-size .ensures) ∙ not-true _ (c .if1 .taken)))
 
-shared-slice-read-if2 : tie.Need-shared-slice-read-if2
-shared-slice-read-if2 c = search needs
-
 returns-2 : tie.Need-returns-2
 returns-2 c = sym (and-is _ _ _ (sym (c .before .before .before .has-size .ensures) ∙ not-false _ (c .before .before .if1 .left)) (or-left _ _ (eq-eqb _ _ (c .if2 .taken))))
-
-shared-slice-read-result : tie.Need-shared-slice-read-result
-shared-slice-read-result c = search needs
 
 returns-3 : tie.Need-returns-3
 returns-3 c = sym (and-is _ _ _ (sym (c .before .before .before .before .has-size .ensures) ∙ not-false _ (c .before .before .before .if1 .left)) (or-is _ _ _ (ne-eqb _ _ (c .before .if2 .left)) refl))
@@ -29,9 +20,9 @@ pub no-size-spec : {M : Type 1} → statement M
 no-size-spec =
     tie.close
     (tie.spec
-    has-size-requires
+    (λ c κs. search needs)
     returns
-    shared-slice-read-if2
+    (λ c. search needs)
     returns-2
-    shared-slice-read-result
+    (λ c. search needs)
     returns-3)

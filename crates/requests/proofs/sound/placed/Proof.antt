@@ -3,20 +3,14 @@ use mathlib.Core.Path.{ap, _∙_}
 use lib.Dec.{ltb}
 use Rattle.rules.specs.Surface.{slots}
 use Rattle.rules.specs.Requests.{slotOf}
-use Rattle.modules.proofs.Search.{slot-placed}
+use Rattle.meaning.proofs.Tables.{slot-placed}
 use borrow.Author.Needs.{needs}
 use Rattle.requests.proofs.sound.placed.Statement.{statement}
 use Rattle.requests.proofs.sound.placed.Tie as tie
-
-id-asked-requires : tie.Need-id-asked-requires
-id-asked-requires c κs = search needs
-
-slot-of-requires : tie.Need-slot-of-requires
-slot-of-requires c κs = search needs
 
 returns : tie.Need-returns
 returns c = let a = c .before .before .before .before .args in
     ap (λ i. ltb i (slots (a .t .now))) (c .slot-of .ensures ∙ ap (slotOf (a .t .now)) (c .before .id-asked .ensures .0)) ∙ slot-placed (a .t .now) _
 
 pub placed-spec : {M : Type 1} → statement M
-placed-spec = tie.close (tie.spec id-asked-requires slot-of-requires returns)
+placed-spec = tie.close (tie.spec (λ c κs. search needs) (λ c κs. search needs) returns)

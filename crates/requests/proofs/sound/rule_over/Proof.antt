@@ -5,12 +5,6 @@ use borrow.Author.Needs.{needs}
 use Rattle.requests.proofs.sound.rule_over.Statement.{statement}
 use Rattle.requests.proofs.sound.rule_over.Tie as tie
 
-either-requires : tie.Need-either-requires
-either-requires c κs = search needs
-
-shared-slice-read-result : tie.Need-shared-slice-read-result
-shared-slice-read-result c = search needs
-
 returns : tie.Need-returns
 returns c = sym (and-is _ _ _ (sym (c .before .before .either .ensures) ∙ c .before .if1 .taken) refl)
 
@@ -18,4 +12,4 @@ returns-2 : tie.Need-returns-2
 returns-2 c = sym (and-no _ _ (sym (c .before .either .ensures) ∙ c .if1 .left))
 
 pub rule-over-spec : {M : Type 1} → statement M
-rule-over-spec = tie.close (tie.spec either-requires shared-slice-read-result returns returns-2)
+rule-over-spec = tie.close (tie.spec (λ c κs. search needs) (λ c. search needs) returns returns-2)

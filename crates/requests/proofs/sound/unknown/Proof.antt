@@ -6,18 +6,12 @@ use borrow.Author.Needs.{needs}
 use Rattle.requests.proofs.sound.unknown.Statement.{statement}
 use Rattle.requests.proofs.sound.unknown.Tie as tie
 
-shared-slice-read-if1 : tie.Need-shared-slice-read-if1
-shared-slice-read-if1 c = search needs
-
 returns : tie.Need-returns
 returns c = simp (lt-leb 1 _ (c .if1 .taken))
-
-shared-slice-read-result : tie.Need-shared-slice-read-result
-shared-slice-read-result c = search needs
 
 returns-2 : tie.Need-returns-2
 returns-2 c = simp (le-leb 1 _ (c .before .if1 .left)) (over 4 (operation (c .before .before .before .args .q .now)))
 
 pub unknown-spec : {M : Type 1} → statement M
 unknown-spec =
-    tie.close (tie.spec shared-slice-read-if1 returns shared-slice-read-result returns-2)
+    tie.close (tie.spec (λ c. search needs) returns (λ c. search needs) returns-2)

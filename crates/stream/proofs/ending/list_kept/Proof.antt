@@ -18,12 +18,6 @@ slice-aggregate-list-standing c = let p = c .before .before .before .before in f
 list-standing-requires : tie.Need-list-standing-requires
 list-standing-requires c κs = let p = c .before .before .before .before .before in p .pre .0 .stands (c .before .before .if1 .left)
 
-counts-requires : tie.Need-counts-requires
-counts-requires c κs = search needs
-
-same-length : tie.Need-same-length
-same-length c = search needs
-
 returns-2 : tie.Need-returns-2
 returns-2 c = let p = c .before .before .before .before .before .before .before .before .before in
     let v = c .before .before .before .list-standing in
@@ -37,6 +31,6 @@ list-kept-spec =
     mul-n
     slice-aggregate-list-standing
     list-standing-requires
-    counts-requires
-    same-length
+    (λ c κs. search needs)
+    (λ c. search needs)
     returns-2)

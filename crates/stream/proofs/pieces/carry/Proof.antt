@@ -26,9 +26,6 @@ long c =
     let h : c .before .whole .result + c .loop .i ≤ length (s .args .b .now) = omega (arith, c .loop .inv .0, c .before .whole .ensures .0, s .pre) in
     moved-long _ (c .loop .b) _ (c .loop .i) (c .loop .inv .1) h
 
-whole-requires : tie.Need-whole-requires Inv-loop μ-loop
-whole-requires c κs = tt
-
 loop-holds : tie.Need-loop-holds Inv-loop μ-loop
 loop-holds c = (omega arith, moved-none _ (c .whole .result))
 
@@ -66,7 +63,7 @@ carry-spec =
     (tie.spec
     Inv-loop
     μ-loop
-    whole-requires
+    (λ c κs. tt)
     loop-holds
     add-b
     slice-read-b

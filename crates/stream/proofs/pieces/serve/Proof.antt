@@ -72,17 +72,11 @@ mul-end c = omega (arith, turn c .3)
 add-end : tie.Need-add-end Inv-loop μ-loop
 add-end c = omega (arith, turn c .3)
 
-sub-serve-together : tie.Need-sub-serve-together Inv-loop μ-loop
-sub-serve-together c = omega arith
-
 part-serve-together-start : tie.Need-part-serve-together-start Inv-loop μ-loop
 part-serve-together-start c = omega (arith, turn (c .before .before) .1)
 
 part-serve-together-end : tie.Need-part-serve-together-end Inv-loop μ-loop
 part-serve-together-end c = omega (arith, turn (c .before .before) .1)
-
-sub-serve-together-2 : tie.Need-sub-serve-together-2 Inv-loop μ-loop
-sub-serve-together-2 c = omega arith
 
 part-serve-together-start-2 : tie.Need-part-serve-together-start-2 Inv-loop μ-loop
 part-serve-together-start-2 c = omega (arith, turn (c .before .before .before) .2)
@@ -144,10 +138,10 @@ serve-spec =
     together-requires
     mul-end
     add-end
-    sub-serve-together
+    (λ c. omega arith)
     part-serve-together-start
     part-serve-together-end
-    sub-serve-together-2
+    (λ c. omega arith)
     part-serve-together-start-2
     part-serve-together-end-2
     serve-together-requires

@@ -18,15 +18,6 @@ slice-aggregate-run-on c = let p = c .before .before .before .before .pre in fit
 run-on-requires : tie.Need-run-on-requires
 run-on-requires c κs = let p = c .before .before .before .before .before .before .pre in (p .0 .stands (p .1 .3), (p .1 .0, p .1 .1, p .1 .2))
 
-same-length : tie.Need-same-length
-same-length c = search needs
-
-same-length-2 : tie.Need-same-length-2
-same-length-2 c = search needs
-
-same-length-3 : tie.Need-same-length-3
-same-length-3 c = search needs
-
 returns : tie.Need-returns
 returns c = let v = c .before .before .before .before .before .run-on in let p = c .before .before .before .before .before .before .before .before .before .before .before .before in
     block-served _ _ _ _ _ (p .pre .0) (p .pre .1 .3) _ _ _ _ (p .pre .1 .4) (v .ensures) (v .kept .1 .1 .1 .0)
@@ -39,7 +30,7 @@ serve-block-spec =
     slice-relend-prefix-run-on
     slice-aggregate-run-on
     run-on-requires
-    same-length
-    same-length-2
-    same-length-3
+    (λ c. search needs)
+    (λ c. search needs)
+    (λ c. search needs)
     returns)

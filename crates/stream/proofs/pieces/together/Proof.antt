@@ -14,9 +14,6 @@ Inv-loop w b n m₀ m = (1 ≤ m) × (m ≤ n) × (apart w b ≡ false) × Reque
 abbrev μ-loop : tie.MeasureT-loop
 μ-loop w b n m₀ m = n - m
 
-apart-requires : tie.Need-apart-requires Inv-loop μ-loop
-apart-requires c κs = omega arith
-
 returns : tie.Need-returns Inv-loop μ-loop
 returns c = (omega arith, c .before .before .before .pre .1, alone-together _ _ (sym (c .before .apart .ensures) ∙ c .if1 .taken))
 
@@ -50,7 +47,7 @@ together-spec =
     (tie.spec
     Inv-loop
     μ-loop
-    apart-requires
+    (λ c κs. omega arith)
     returns
     loop-holds
     mul-if2

@@ -3,32 +3,23 @@ use mathlib.Core.Path.{sym, ap}
 use native.Mathlib.Omega.{arith}
 use Prim.Native.Nat.{_*_}
 use Rattle.stream.specs.Records.{onto}
-use Rattle.surface.proofs.CallLaws.{part}
-use Rattle.stream.proofs.Laws.{cells-most}
+use Rattle.surface.proofs.ExamineLaws.{part}
+use native.Mathlib.Nat.{mul-le-mul}
 use borrow.Author.Needs.{needs}
 use Rattle.stream.proofs.records.clear_to.Statement.{statement}
 use Rattle.stream.proofs.records.clear_to.Tie as tie
 
 mul-n : tie.Need-mul-n
-mul-n c = let p = c .before .pre in omega (arith, cells-most _ _ (p .0) (p .1))
+mul-n c = let p = c .before .pre in omega (arith, mul-le-mul (p .0) (p .1))
 
 slice-relend-prefix-clear-weights : tie.Need-slice-relend-prefix-clear-weights
-slice-relend-prefix-clear-weights c = let p = c .before .pre in omega (arith, cells-most _ _ (p .0) (p .1), p .2)
+slice-relend-prefix-clear-weights c = let p = c .before .pre in omega (arith, mul-le-mul (p .0) (p .1), p .2)
 
 slice-aggregate-clear-weights : tie.Need-slice-aggregate-clear-weights
-slice-aggregate-clear-weights c = let p = c .before .before .pre in part _ _ 4096 (cells-most _ _ (p .0) (p .1)) (p .2)
+slice-aggregate-clear-weights c = let p = c .before .before .pre in part _ _ 4096 (mul-le-mul (p .0) (p .1)) (p .2)
 
 clear-weights-requires : tie.Need-clear-weights-requires
-clear-weights-requires c κs = let p = c .before .before .pre in (p .0, p .1, sym (part _ _ 4096 (cells-most _ _ (p .0) (p .1)) (p .2)))
-
-free-slots-requires : tie.Need-free-slots-requires
-free-slots-requires c κs = search needs
-
-same-length : tie.Need-same-length
-same-length c = search needs
-
-same-length-2 : tie.Need-same-length-2
-same-length-2 c = search needs
+clear-weights-requires c κs = let p = c .before .before .pre in (p .0, p .1, sym (part _ _ 4096 (mul-le-mul (p .0) (p .1)) (p .2)))
 
 returns : tie.Need-returns
 returns c = let a = c .before .before .before .before .before .before .before .before .args in (ap (λ x. onto (a .w * a .h) x (a .s .now)) (c .before .before .before .before .before .clear-weights .ensures), c .before .before .free-slots .ensures)
@@ -41,7 +32,7 @@ clear-to-spec =
     slice-relend-prefix-clear-weights
     slice-aggregate-clear-weights
     clear-weights-requires
-    free-slots-requires
-    same-length
-    same-length-2
+    (λ c κs. search needs)
+    (λ c. search needs)
+    (λ c. search needs)
     returns)

@@ -17,9 +17,6 @@ abbrev μ-loop : tie.MeasureT-loop
 loop-holds : tie.Need-loop-holds Inv-loop μ-loop
 loop-holds c = (omega arith, refl, refl, record { at = 0; low = omega arith; taken = c .before .before .before .pre .5 }, (λ k h. absurd (omega arith)))
 
-shared-slice-read-take-slot : tie.Need-shared-slice-read-take-slot Inv-loop μ-loop
-shared-slice-read-take-slot c = omega arith
-
 cast-take-slot : tie.Need-cast-take-slot Inv-loop μ-loop
 cast-take-slot c = omega (arith, c .shared-slice-known3 .given (c .before .before .loop .k))
 
@@ -59,12 +56,6 @@ returns c = record {
   marked = λ e. absurd (false≢true e);
 }
 
-add-k : tie.Need-add-k Inv-loop μ-loop
-add-k c = omega arith
-
-loop-less : tie.Need-loop-less Inv-loop μ-loop
-loop-less c = omega arith
-
 loop-again : tie.Need-loop-again Inv-loop μ-loop
 loop-again c =
     let l = c .before .before .before .before .before .before .before .before .before .loop in
@@ -94,14 +85,14 @@ take-all-spec =
     Inv-loop
     μ-loop
     loop-holds
-    shared-slice-read-take-slot
+    (λ c. omega arith)
     cast-take-slot
     take-slot-requires
     same-length
     same-length-2
     returns
-    add-k
-    loop-less
+    (λ c. omega arith)
+    (λ c. omega arith)
     loop-again
     same-length-3
     same-length-4

@@ -40,12 +40,6 @@ next-row-requires c κs =
 add-at : tie.Need-add-at Inv-loop μ-loop
 add-at c = omega (arith, ends (c .before .before .before), c .before .before .before .before .before .before .before .before .pre .3)
 
-add-y : tie.Need-add-y Inv-loop μ-loop
-add-y c = omega arith
-
-loop-less : tie.Need-loop-less Inv-loop μ-loop
-loop-less c = omega arith
-
 loop-again : tie.Need-loop-again Inv-loop μ-loop
 loop-again c =
     let l = c .before .before .before .before .loop in
@@ -66,4 +60,4 @@ returns c = let l = c .before .loop in let a = c .before .before .before .before
 
 pub count-rows-spec : {M : Type 1} → statement M
 count-rows-spec =
-    tie.close (tie.spec Inv-loop μ-loop first-row-requires loop-holds next-row-requires add-at add-y loop-less loop-again same-length returns)
+    tie.close (tie.spec Inv-loop μ-loop first-row-requires loop-holds next-row-requires add-at (λ c. omega arith) (λ c. omega arith) loop-again same-length returns)

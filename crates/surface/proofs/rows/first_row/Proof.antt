@@ -24,26 +24,11 @@ abbrev μ-loop : tie.MeasureT-loop
 loop-holds : tie.Need-loop-holds Inv-loop μ-loop
 loop-holds c = (omega arith, row-none _ _ _)
 
-mul-counted-on : tie.Need-mul-counted-on Inv-loop μ-loop
-mul-counted-on c = omega arith
-
 slice-copy-out-counted-on : tie.Need-slice-copy-out-counted-on Inv-loop μ-loop
 slice-copy-out-counted-on c = omega (arith, c .before .loop .inv .1 .long)
 
-counted-on-requires : tie.Need-counted-on-requires Inv-loop μ-loop
-counted-on-requires c κs = omega arith
-
-mul-t9 : tie.Need-mul-t9 Inv-loop μ-loop
-mul-t9 c = omega arith
-
 slice-set-from-m : tie.Need-slice-set-from-m Inv-loop μ-loop
 slice-set-from-m c = omega (arith, c .before .before .before .loop .inv .1 .long)
-
-add-x : tie.Need-add-x Inv-loop μ-loop
-add-x c = omega arith
-
-loop-less : tie.Need-loop-less Inv-loop μ-loop
-loop-less c = omega arith
 
 loop-again : tie.Need-loop-again Inv-loop μ-loop
 loop-again c =
@@ -65,4 +50,4 @@ returns c = let l = c .before .loop in let a = c .before .before .args in
 pub first-row-spec : {M : Type 1} → statement M
 first-row-spec =
     tie.close
-    (tie.spec Inv-loop μ-loop loop-holds mul-counted-on slice-copy-out-counted-on counted-on-requires mul-t9 slice-set-from-m add-x loop-less loop-again same-length returns)
+    (tie.spec Inv-loop μ-loop loop-holds (λ c. omega arith) slice-copy-out-counted-on (λ c κs. omega arith) (λ c. omega arith) slice-set-from-m (λ c. omega arith) (λ c. omega arith) loop-again same-length returns)

@@ -22,33 +22,12 @@ Inv-loop m₀ w at x₀ up m x = (x ≤ w) × RowWritten m₀ m at x (item m₀ 
 abbrev μ-loop : tie.MeasureT-loop
 μ-loop m₀ w at x₀ up m x = w - x
 
-sub-up : tie.Need-sub-up Inv-loop μ-loop
-sub-up c = omega arith
-
 loop-holds : tie.Need-loop-holds Inv-loop μ-loop
 loop-holds c = (omega arith, row-none _ _ _)
 
 -- the slice is as long as at entry
 long : (l : tie.At-loop Inv-loop μ-loop) → length (l .loop .m) ≡ length (l .before .args .m .now)
 long l = l .loop .inv .1 .long
-
-add-counted-on : tie.Need-add-counted-on Inv-loop μ-loop
-add-counted-on c = omega arith
-
-mul-counted-on : tie.Need-mul-counted-on Inv-loop μ-loop
-mul-counted-on c = omega arith
-
-slice-copy-out-counted-on : tie.Need-slice-copy-out-counted-on Inv-loop μ-loop
-slice-copy-out-counted-on c = omega (arith, long (c .before))
-
-add-counted-on-2 : tie.Need-add-counted-on-2 Inv-loop μ-loop
-add-counted-on-2 c = omega arith
-
-mul-counted-on-2 : tie.Need-mul-counted-on-2 Inv-loop μ-loop
-mul-counted-on-2 c = omega arith
-
-slice-copy-out-counted-on-2 : tie.Need-slice-copy-out-counted-on-2 Inv-loop μ-loop
-slice-copy-out-counted-on-2 c = omega (arith, long (c .before .before))
 
 -- the cell above is as it was at entry
 up-is : (c : tie.After-counted-on-arg2 Inv-loop μ-loop) → let l = c .before .before .before .loop in let a = c .before .before .before .before .args in
@@ -61,21 +40,6 @@ up-is c =
 
 counted-on-requires : tie.Need-counted-on-requires Inv-loop μ-loop
 counted-on-requires c κs = subst (λ z. countOf z ≤ 64) (sym (up-is c)) (c .before .before .before .before .pre .2 (c .before .before .before .loop .x) (omega arith))
-
-add-t16 : tie.Need-add-t16 Inv-loop μ-loop
-add-t16 c = omega arith
-
-mul-t17 : tie.Need-mul-t17 Inv-loop μ-loop
-mul-t17 c = omega arith
-
-slice-set-from-m : tie.Need-slice-set-from-m Inv-loop μ-loop
-slice-set-from-m c = omega (arith, long (c .before .before .before .before))
-
-add-x : tie.Need-add-x Inv-loop μ-loop
-add-x c = omega arith
-
-loop-less : tie.Need-loop-less Inv-loop μ-loop
-loop-less c = omega arith
 
 loop-again : tie.Need-loop-again Inv-loop μ-loop
 loop-again c =
@@ -101,20 +65,20 @@ next-row-spec =
     (tie.spec
     Inv-loop
     μ-loop
-    sub-up
+    (λ c. omega arith)
     loop-holds
-    add-counted-on
-    mul-counted-on
-    slice-copy-out-counted-on
-    add-counted-on-2
-    mul-counted-on-2
-    slice-copy-out-counted-on-2
+    (λ c. omega arith)
+    (λ c. omega arith)
+    (λ c. omega (arith, long (c .before)))
+    (λ c. omega arith)
+    (λ c. omega arith)
+    (λ c. omega (arith, long (c .before .before)))
     counted-on-requires
-    add-t16
-    mul-t17
-    slice-set-from-m
-    add-x
-    loop-less
+    (λ c. omega arith)
+    (λ c. omega arith)
+    (λ c. omega (arith, long (c .before .before .before .before)))
+    (λ c. omega arith)
+    (λ c. omega arith)
     loop-again
     same-length
     returns)

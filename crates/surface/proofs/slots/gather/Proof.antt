@@ -6,8 +6,9 @@ use native.Mathlib.Omega.{arith}
 use borrow.Author.Tests.{not-true, not-false}
 use lib.ListN.{length, length-set}
 use Rattle.rules.specs.Surface.{usedSlot, slots}
+use Rattle.rules.proofs.Tests.{count-le}
 use Rattle.surface.specs.Slots.{Gathered}
-use Rattle.surface.proofs.SlotLaws.{count-le, gather-none, gather-hit, gather-miss}
+use Rattle.surface.proofs.SlotLaws.{gather-none, gather-hit, gather-miss}
 use Rattle.surface.proofs.slots.gather.Statement.{statement}
 use Rattle.surface.proofs.slots.gather.Tie as tie
 
@@ -24,12 +25,6 @@ loop-holds c = (omega arith, omega arith, refl, gather-none _ _)
 few : (l : tie.At-loop Inv-loop μ-loop) → l .loop .k ≤ l .loop .i
 few l = omega (arith, l .loop .inv .3 .many, count-le (l .loop .i) (usedSlot (l .before .before .before .args .t .now)))
 
-slot-free-requires : tie.Need-slot-free-requires Inv-loop μ-loop
-slot-free-requires c κs = omega arith
-
-cast-used : tie.Need-cast-used Inv-loop μ-loop
-cast-used c = omega arith
-
 -- there is room for one more
 room : (c : tie.In-loop Inv-loop μ-loop) → c .before .loop .k < length (c .before .loop .used)
 room c = omega (arith, few (c .before), c .before .loop .inv .2)
@@ -39,12 +34,6 @@ slice-write-used c = room (c .before .before)
 
 add-k : tie.Need-add-k Inv-loop μ-loop
 add-k c = omega (arith, few (c .before .before .before))
-
-add-i : tie.Need-add-i Inv-loop μ-loop
-add-i c = omega arith
-
-loop-less : tie.Need-loop-less Inv-loop μ-loop
-loop-less c = omega arith
 
 loop-again : tie.Need-loop-again Inv-loop μ-loop
 loop-again c =
@@ -68,4 +57,4 @@ returns c = let l = c .before .loop in let a = c .before .before .before .before
 
 pub gather-spec : {M : Type 1} → statement M
 gather-spec =
-    tie.close (tie.spec Inv-loop μ-loop loop-holds slot-free-requires cast-used slice-write-used add-k add-i loop-less loop-again same-length returns)
+    tie.close (tie.spec Inv-loop μ-loop loop-holds (λ c κs. omega arith) (λ c. omega arith) slice-write-used add-k (λ c. omega arith) (λ c. omega arith) loop-again same-length returns)

@@ -8,19 +8,10 @@ use borrow.Author.Needs.{needs}
 use Rattle.surface.proofs.slots.known.Statement.{statement}
 use Rattle.surface.proofs.slots.known.Tie as tie
 
-wide-requires : tie.Need-wide-requires
-wide-requires c κs = search needs
-
 returns : tie.Need-returns
 returns c =
     let s = c .before .before .before in
     sym (none-any (s .args .n) (λ k. eqb (getD (s .args .ids .now) k 0) (s .args .id)) (λ k h. ne-eqb (getD (s .args .ids .now) k 0) (s .args .id) (λ e. omega (arith, s .pre .1 k h, c .if1 .taken, c .before .wide .ensures))))
 
-seen-requires : tie.Need-seen-requires
-seen-requires c κs = search needs
-
-returns-2 : tie.Need-returns-2
-returns-2 c = search needs
-
 pub known-spec : {M : Type 1} → statement M
-known-spec = tie.close (tie.spec wide-requires returns seen-requires returns-2)
+known-spec = tie.close (tie.spec (λ c κs. search needs) returns (λ c κs. search needs) (λ c. search needs))

@@ -1,13 +1,9 @@
-use mathlib.Core.Path.{_≡_, sym, _∙_}
-use mathlib.Core.Bool.{true, false}
-use mathlib.Core.Logic.{⊎-elim}
+use mathlib.Core.Path.{sym}
 use Prim.Native.Nat.{_+_, _*_, _<_}
 use native.Mathlib.Omega.{arith}
 use borrow.Author.Needs.{needs}
-use borrow.Author.Tests.{eqb-true, eqb-false}
-use lib.Dec.{eqb}
-use Rattle.rules.proofs.Tests.{decide}
-use Rattle.surface.proofs.SlotLaws.{read-rect, means-sound, unsound}
+use Rattle.meaning.proofs.Stands.{told-sound}
+use Rattle.surface.proofs.SlotLaws.{spare-sum, sum-spare, read-rect, unsound}
 use Rattle.surface.proofs.slots.sound.Statement.{statement}
 use Rattle.surface.proofs.slots.sound.Tie as tie
 
@@ -41,29 +37,20 @@ add-if5 c = omega (arith, small (c .before .before .before .before .before .befo
 returns-5 : tie.Need-returns-5
 returns-5 c = let s = c .before .before .before .before .before .before .before .before .before .before in sym (unsound (s .args .w) (s .args .h) (s .args .t .now) (s .args .i) (λ d. omega (arith, d, s .pre .1, read-rect (s .pre .2))))
 
-spare-at-requires : tie.Need-spare-at-requires
-spare-at-requires c κs = search needs
-
 returns-6 : tie.Need-returns-6
 returns-6 c =
-    let s = c .before .before .before .before .before .before .before .before .before .before .before in
-    let v = c .spare-at .ensures .0 in
+    let s = c .before .before .before .before .before .before .before .before .before .before .before .before in
+    sym (unsound (s .args .w) (s .args .h) (s .args .t .now) (s .args .i) (λ d. omega (arith, spare-sum (s .args .t .now) (s .args .i) (d .spare), c .before .spare-at .ensures .0)))
+
+returns-7 : tie.Need-returns-7
+returns-7 c =
+    let s = c .before .before .before .before .before .before .before .before .before .before .before .before in
     let e = read-rect (s .pre .2) in
-    ⊎-elim
-    (λ (z : eqb (c .spare-at .result) 0 ≡ true).
-    let o = eqb-true (c .spare-at .result) 0 z in
-    z ∙ sym (means-sound (s .args .w) (s .args .h) (s .args .t .now) (s .args .i) (record {
+    sym (told-sound (s .args .w) (s .args .h) (s .args .t .now) (s .args .i) (record {
       id = omega (arith, s .pre .1);
-      wide = omega (arith, e);
-      tall = omega (arith, e);
-      columns = omega (arith, e);
-      lines = omega (arith, e);
-      spare = omega arith;
-    })))
-    (λ (z : eqb (c .spare-at .result) 0 ≡ false).
-    let o = eqb-false (c .spare-at .result) 0 z in
-    z ∙ sym (unsound (s .args .w) (s .args .h) (s .args .t .now) (s .args .i) (λ d. omega (arith, d .spare))))
-    (decide (eqb (c .spare-at .result) 0))
+      place = record { wide = omega (arith, e); tall = omega (arith, e); columns = omega (arith, e); lines = omega (arith, e) };
+      spare = sum-spare (s .args .t .now) (s .args .i) (omega (arith, c .before .spare-at .ensures .0));
+    }))
 
 pub sound-spec : {M : Type 1} → statement M
-sound-spec = tie.close (tie.spec returns returns-2 returns-3 add-if4 returns-4 add-if5 returns-5 spare-at-requires returns-6)
+sound-spec = tie.close (tie.spec returns returns-2 returns-3 add-if4 returns-4 add-if5 returns-5 (λ c κs. search needs) returns-6 returns-7)

@@ -1,2 +1,0 @@
--- What the exported calls promise.
-pub mod Promise

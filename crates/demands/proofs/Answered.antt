@@ -1,0 +1,173 @@
+-- THE REQUESTS OF A CALL THAT WAS NOT REFUSED, each with its answer in the host's bytes. Assumes nothing.
+use mathlib.Core.Path.{_≡_, refl, sym, ap, ap₂, _∙_, subst}
+use mathlib.Core.Bool.{Bool, true, false, not, cond, _&&_, _||_}
+use mathlib.Core.Logic.{_↔_}
+use mathlib.Core.List.{List}
+use Prim.Native.Nat.{ℕ, suc, _+_, _*_, _≤_, _<_}
+use native.Mathlib.Omega.{arith}
+use borrow.Author.Tests.{ne-eqb}
+use lib.Dec.{eqb}
+use lib.IntN.{ℤ}
+use lib.ListN.{getD, drop}
+use lib.Seq.{getD-take, getD-drop}
+use Rattle.rules.specs.Judging.{FirstThat}
+use Rattle.rules.specs.Surface.{rect, slots, covers, idOf, rectOf, recordOf, freeRecord, freeSlot, withRecord, occupied}
+use Rattle.rules.specs.Empties.{Empty}
+use Rattle.rules.specs.Requests.{idLow, idHigh, idAsked, wide, high, byRule, isRemove, isExchange, makesNew, idPlaced, slotOf, lowestFree, ground, judging, stepOf, codeOf, valuesOf, answerOf, tableAfter, acceptedOne}
+use Rattle.rules.specs.Blocks.{requests, request, nextBy, afterBy}
+use Rattle.rules.specs.Host.{weightsIn}
+use Rattle.rules.specs.declared.Rect.{Rect}
+use Rattle.rules.specs.declared.Step.{Step}
+use Rattle.rules.specs.declared.Step.the-variants.{Refused, Done}
+use Rattle.rules.proofs.Tests.{not-both, least-is}
+use Rattle.meaning.specs.Change.{Change, Taking}
+use Rattle.meaning.specs.Change.Change.{puts, takes, swaps}
+use Rattle.meaning.proofs.Changes.{id-gone}
+use Rattle.meaning.proofs.Steps.{refused-code, rules-step, change, put-leaves, take-leaves, swap-leaves}
+use Rattle.demands.specs.Sound.{Sound, SlotForIt}
+use Rattle.demands.specs.History.{moduleAt, codeIn, placeIn}
+use Rattle.demands.specs.Told.{HasModule, Placed, LowestFree, SlotOfId}
+use Rattle.demands.specs.Frame.{OneFramed}
+use Rattle.demands.specs.Chain.{RunCall, NotRefused, asked, answered, upTo}
+use Rattle.demands.proofs.Refusals as R
+use Rattle.demands.proofs.Refusals.{StandsAs, stands-as}
+use Rattle.demands.proofs.Told.{put-has}
+use Rattle.demands.proofs.Blocks.{answers-at, framed-after}
+use Rattle.demands.proofs.Chains.{call-stands, call-answers, each-stands}
+
+-- the code in answer k is byte 8·k of the answers
+pub code-byte : (a : List ℕ) (k : ℕ) → codeIn (request a k) ≡ getD a (8 * k) 0
+code-byte a k = let e : 8 * k + 0 ≡ 8 * k = omega arith in getD-take 8 (drop (8 * k) a) 0 0 (omega arith) ∙ getD-drop (8 * k) a 0 0 ∙ ap (λ n. getD a n 0) e
+
+-- an accepted step's slot, and that it is done there
+accepted : (d : Step) → ((c : ℕ) → d ≡ Refused c → 11 ≤ c) → codeOf d ≡ 0 → (i : ℕ) × (d ≡ Done i (valuesOf d))
+accepted (Refused c) h e = absurd (omega (arith, h c refl, e))
+accepted (Done i r) h e = (i, refl)
+
+-- what is counted of a step is 1 where its code is 0
+counted : (d : Step) → ((c : ℕ) → d ≡ Refused c → 11 ≤ c) → acceptedOne d ≡ cond (eqb (codeOf d) 0) 1 0
+counted (Refused c) h = ap {B = ℕ} (λ b. cond b 1 0) (sym (ne-eqb c 0 (λ z. omega (arith, h c refl, z))))
+counted (Done i r) h = refl
+
+module _ {W H : ℕ} (c : RunCall W H) (e : NotRefused c) (k : ℕ) (l : k < requests (c .block)) where
+  abbrev t : List ℕ
+  t = upTo c k .table
+
+  abbrev s : List ℤ
+  s = upTo c k .weights
+
+  abbrev q : List ℕ
+  q = asked c k
+
+  abbrev then : List ℕ
+  then = upTo c (suc k) .table
+
+  -- EACH REQUEST'S ANSWER
+  pub answer-is : answered c k ≡ answerOf q (stepOf W H t q)
+  answer-is = ap (λ u. request u k) (call-answers c e) ∙ answers-at (stepOf W H) W H (c .block) (weightsIn (c .lent)) (c .lent .table) (requests (c .block)) k l
+
+  code-is : codeIn (answered c k) ≡ codeOf (stepOf W H t q)
+  code-is = ap codeIn answer-is
+
+  pub answer-counted : upTo c (suc k) .accepted ≡ upTo c k .accepted + cond (eqb (codeIn (answered c k)) 0) 1 0
+  unfolding afterBy nextBy
+  answer-counted = ap (λ n. upTo c k .accepted + n) (counted (stepOf W H t q) (refused-code W H t q) ∙ ap {B = ℕ} (λ n. cond (eqb n 0) 1 0) (sym code-is))
+
+  pub answer-first : FirstThat (judging W H t q) (codeIn (answered c k))
+  answer-first = rw code-is (R.code-first W H t q)
+
+  pub answer-never-22 : getD (c .answers) (8 * k) 0 ≡ 22 → ⊥
+  answer-never-22 z = R.never-22 W H t q (sym code-is ∙ code-byte (c .answers) k ∙ z)
+
+  pub answer-ground : Sound t q → isExchange q ≡ true → (x y : ℕ) → occupied (ground t q) x y ≡ (occupied t x y && not (covers (rectOf t (slotOf t (idAsked q))) x y))
+  answer-ground = R.ground-exchange W H s t q (each-stands c e k)
+
+  -- a refused one
+  pub answer-refused : (codeIn (answered c k) ≡ 0 → ⊥) → (upTo c (suc k) .weights ≡ upTo c k .weights) × (then ≡ t)
+  unfolding afterBy nextBy
+  answer-refused ne = R.refused-keeps W H q (upTo c k) (stepOf W H t q) (λ z. ne (code-is ∙ z))
+
+  -- refused exactly when
+  pub answer-refused-exactly : Sound t q → byRule q ≡ true → SlotForIt t q →
+      (codeIn (answered c k) ≡ 0 → ⊥) ↔ ((x y : ℕ) → Empty (occupied (ground t q)) W H (rect x y (wide q) (high q)) → ⊥)
+  answer-refused-exactly so by sl =
+      let a = R.refused-exactly W H t q so by sl in
+      let b = R.no-position (occupied (ground t q)) W H (wide q) (high q) in
+      (λ ne. b .0 (a .0 (λ z. ne (code-is ∙ z))), λ f z. a .1 (b .1 f) (sym code-is ∙ z))
+
+  -- ---- an accepted one has a slot, and the rectangle that its answer names
+
+  module _ (ok : codeIn (answered c k) ≡ 0) where
+    abbrev r : Rect
+    r = placeIn (answered c k)
+
+    accepted-at : (i : ℕ) × (stepOf W H t q ≡ Done i r)
+    accepted-at = let d = accepted (stepOf W H t q) (refused-code W H t q) (sym code-is ∙ ok) in (d .0, d .1 ∙ ap (Done (d .0)) (sym (ap placeIn answer-is)))
+
+    abbrev i : ℕ
+    i = accepted-at .0
+
+    did : Change W H s t q i r
+    did = change W H s t q (each-stands c e k) i r (accepted-at .1)
+
+    -- the table that it leaves
+    leaves : then ≡ tableAfter q (Done i r) t
+    unfolding afterBy nextBy
+    leaves = ap (λ d. tableAfter q d t) (accepted-at .1)
+
+    pub answer-stands-as : StandsAs W H t q r
+    answer-stands-as = stands-as W H s t q (each-stands c e k) i r (accepted-at .1)
+
+    pub answer-there : isRemove q ≡ false → Placed then (idAsked q) r
+    answer-there f =
+        let at : (u : List ℕ) → tableAfter q (Done i r) t ≡ u → HasModule u (moduleAt i (idAsked q) r) → Placed then (idAsked q) r =
+        λ u e h. record { slot = i; has = subst (λ u. HasModule u (moduleAt i (idAsked q) r)) (sym (leaves ∙ e)) h } in
+        elim did [
+          | puts n m p ↦ at _ (put-leaves W H s t q i r (n .noRemove)) (put-has W H s t i (idLow q) (idHigh q) r p)
+          | takes o x m id z p ↦ not-both (isRemove q) o f
+          | swaps o x m id p n ↦ at _ (swap-leaves W H s t q i r o p) (put-has W H _ _ i (idLow q) (idHigh q) r n)
+        ]
+
+    pub answer-gone : isRemove q ≡ true → Placed t (idAsked q) r × (idPlaced then (idAsked q) ≡ false)
+    answer-gone f = elim did [
+      | puts n m p ↦ not-both (isRemove q) f (n .noRemove)
+      | takes o x m id z p ↦ (
+        record { slot = i; has = record { low = p .slot; used = p .used; id = id; place = sym z } },
+        ap₂ idPlaced (leaves ∙ take-leaves W H s t q i r o) (sym id) ∙ id-gone W H s t i p,
+      )
+      | swaps o x m id p n ↦ not-both (isRemove q) f o
+    ]
+
+    -- ---- its record stands in the lowest free slot, or in its own
+
+    its : i ≡ slotOf t (idAsked q) → idOf t i ≡ idAsked q → Taking W H s t i → SlotOfId t (slotOf t (idAsked q)) (idAsked q)
+    its m id p = subst (λ j. SlotOfId t j (idAsked q)) m (record { slot = p .slot; used = p .used; named = id })
+
+    pub answer-new-slot : makesNew q ≡ true → LowestFree t (lowestFree t) × (then ≡ withRecord t (lowestFree t) (recordOf (idLow q) (idHigh q) r))
+    unfolding lowestFree
+    answer-new-slot f = elim did [
+      | puts n m p ↦ (
+        subst (LowestFree t) m (record { slot = p .slot; free = p .unused; before = λ j h. least-is (slots t) (freeSlot t) .before j (omega arith) (subst (λ a. j < a) m h) }),
+        leaves ∙ put-leaves W H s t q i r (n .noRemove) ∙ ap (λ j. withRecord t j (recordOf (idLow q) (idHigh q) r)) m,
+      )
+      | takes o x m id z p ↦ not-both (makesNew q) f (R.old-not-new q (ap₂ _||_ o x))
+      | swaps o x m id p n ↦ not-both (makesNew q) f (R.old-not-new q (ap₂ _||_ o x))
+    ]
+
+    pub answer-exchange-slot : isExchange q ≡ true → SlotOfId t (slotOf t (idAsked q)) (idAsked q) × (then ≡ withRecord t (slotOf t (idAsked q)) (recordOf (idLow q) (idHigh q) r))
+    answer-exchange-slot f = elim did [
+      | puts n m p ↦ not-both (isExchange q) f (n .noExchange)
+      | takes o x m id z p ↦ not-both (isExchange q) f x
+      | swaps o x m id p n ↦ (its m id p, leaves ∙ put-leaves W H s t q i r o ∙ ap (λ j. withRecord t j (recordOf (idLow q) (idHigh q) r)) m)
+    ]
+
+    pub answer-freed-slot : isRemove q ≡ true → SlotOfId t (slotOf t (idAsked q)) (idAsked q) × (then ≡ withRecord t (slotOf t (idAsked q)) freeRecord)
+    answer-freed-slot f = elim did [
+      | puts n m p ↦ not-both (isRemove q) f (n .noRemove)
+      | takes o x m id z p ↦ (its m id p, leaves ∙ take-leaves W H s t q i r o ∙ ap (λ j. withRecord t j freeRecord) m)
+      | swaps o x m id p n ↦ not-both (isRemove q) f o
+    ]
+
+    pub answer-frame : OneFramed W H q r (upTo c k) (upTo c (suc k))
+    answer-frame =
+        record { slot = i; framed = framed-after (stepOf W H) W H (c .block) (weightsIn (c .lent)) (c .lent .table) (rules-step W H) (call-stands c e) k i r (accepted-at .1) }

@@ -1,0 +1,34 @@
+use mathlib.Core.Path.{refl, sym, _∙_}
+use native.Mathlib.Omega.{arith}
+use borrow.Author.Needs.{needs}
+use Rattle.surface.proofs.ExamineLaws.{ones-part, part}
+use Rattle.rules.specs.Host.{lent}
+use Rattle.lent.specs.Lent.{Right}
+use Rattle.lent.proofs.Laws.{lent-area, listed-refused}
+use Rattle.lent.proofs.list.list.Statement.{statement}
+use Rattle.lent.proofs.list.list.Tie as tie
+
+returns : tie.Need-returns
+returns c = listed-refused _ _ _ _ _ _ (c .before .size-code .ensures) (c .if1 .taken)
+
+-- sizes and lengths are right
+right : (c : tie.Else1) → let a = c .before .before .before .before .before .args in Right (a .w) (a .h) (lent (a .weights .now) (a .table .now))
+right c = record { right = sym (c .before .size-code .ensures) ∙ c .if1 .left }
+
+mul-n : tie.Need-mul-n
+mul-n c = omega (arith, lent-area _ _ _ _ (right c))
+
+array-borrow-prefix-a : tie.Need-array-borrow-prefix-a
+array-borrow-prefix-a c = lent-area _ _ _ _ (right (c .before))
+
+slice-aggregate-listed-on : tie.Need-slice-aggregate-listed-on
+slice-aggregate-listed-on c = part _ _ 4096 (array-borrow-prefix-a (c .before)) refl
+
+listed-on-requires : tie.Need-listed-on-requires
+listed-on-requires c κs = (right (c .before .before), ones-part _ 4096 (array-borrow-prefix-a (c .before)))
+
+returns-2 : tie.Need-returns-2
+returns-2 c = c .before .before .before .listed-on .ensures
+
+pub list-spec : {M : Type 1} → statement M
+list-spec = tie.close (tie.spec (λ c κs. search needs) returns mul-n array-borrow-prefix-a slice-aggregate-listed-on listed-on-requires (λ c. search needs) returns-2)

@@ -1,0 +1,2 @@
+-- What the calls on lent bytes promise.
+pub mod Lent

@@ -1,0 +1,85 @@
+-- `listing::list::count_list` meets its contract. Assumes nothing.
+use mathlib.Core.Path.{_≡_, refl, _∙_}
+use Prim.Native.Nat.{_-_}
+use native.Mathlib.Omega.{arith}
+use lib.ListN.{length}
+use Rattle.listing.proofs.Counted.{Found, found-none, found-more, found-all}
+use Rattle.listing.proofs.list.count_list.Statement.{statement}
+use Rattle.listing.proofs.list.count_list.Tie as tie
+
+abbrev Inv-loop : tie.InvT-loop
+Inv-loop w h weights table scans lefts₀ rights₀ heights₀ found₀ y₀ lefts rights heights found y =
+    (length lefts ≡ length lefts₀) × (length rights ≡ length rights₀) × (length heights ≡ length heights₀) × Found w h table found y
+
+abbrev μ-loop : tie.MeasureT-loop
+μ-loop w h weights table scans lefts₀ rights₀ heights₀ found₀ y₀ lefts rights heights found y = h - y
+
+abbrev start : tie.At-loop Inv-loop μ-loop → tie.Start Inv-loop μ-loop
+start c = c .before .before .before .before .before .before
+
+abbrev entered : tie.After-entries-in-arg3 Inv-loop μ-loop → tie.In-loop Inv-loop μ-loop
+entered c = c .before .before .before
+
+abbrev listed : tie.After-struct-known Inv-loop μ-loop → tie.After-entries-in Inv-loop μ-loop
+listed c = c .before .before .before .before .before .before .before
+
+loop-holds : tie.Need-loop-holds Inv-loop μ-loop
+loop-holds c = (refl, refl, refl, found-none _ _ _)
+
+entries-in-requires : tie.Need-entries-in-requires Inv-loop μ-loop
+entries-in-requires c κs =
+    let l = entered c .before in
+    let p = start l .pre in
+    let i = l .loop .inv in
+    (p .0, ((entered c .loop-test .taken, p .1 .0), (omega (arith, i .0, p .1 .1 .0), omega (arith, i .1, p .1 .1 .1), omega (arith, i .2, p .1 .1 .2))))
+
+add-found : tie.Need-add-found Inv-loop μ-loop
+add-found c =
+    let e = listed c in
+    let t = entered (e .before) in
+    let p = start (t .before) .pre .0 in
+    omega (arith, e .entries-in .ensures .1 .0 .1, t .before .loop .inv .3 .few, t .loop-test .taken, p .sides .widest, p .sides .highest)
+
+add-y : tie.Need-add-y Inv-loop μ-loop
+add-y c = omega (arith, entered (listed c .before) .loop-test .taken)
+
+loop-less : tie.Need-loop-less Inv-loop μ-loop
+loop-less c = omega (arith, entered (listed c .before) .loop-test .taken)
+
+loop-again : tie.Need-loop-again Inv-loop μ-loop
+loop-again c =
+    let e = listed c in
+    let t = entered (e .before) in
+    let i = t .before .loop .inv in
+    let k = e .entries-in .kept .1 .1 .1 .1 .1 .1 in
+    let n = e .entries-in .ensures .1 .0 in
+    (k .0 ∙ i .0, k .1 .0 ∙ i .1, k .1 .1 .0 ∙ i .2, found-more _ _ _ _ _ _ (i .3) (start (t .before) .pre .0 .sides .widest) (t .loop-test .taken) (n .0) (n .1))
+
+same-length : tie.Need-same-length Inv-loop μ-loop
+same-length c = c .before .loop .inv .0
+
+same-length-2 : tie.Need-same-length-2 Inv-loop μ-loop
+same-length-2 c = c .before .loop .inv .1
+
+same-length-3 : tie.Need-same-length-3 Inv-loop μ-loop
+same-length-3 c = c .before .loop .inv .2
+
+returns : tie.Need-returns Inv-loop μ-loop
+returns c = found-all _ _ _ _ _ (c .before .loop .inv .3) (c .loop-test .left)
+
+pub count-list-spec : {M : Type 1} → statement M
+count-list-spec =
+    tie.close
+    (tie.spec
+    Inv-loop
+    μ-loop
+    loop-holds
+    entries-in-requires
+    add-found
+    add-y
+    loop-less
+    loop-again
+    same-length
+    same-length-2
+    same-length-3
+    returns)

@@ -1,4 +1,0 @@
--- Laws of the calls on numbers and lent lists.
-pub mod BlockLaws
-pub mod Laws
-pub mod Unique

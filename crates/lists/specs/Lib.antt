@@ -1,2 +1,0 @@
--- What the calls on numbers and lent lists promise.
-pub mod Promise

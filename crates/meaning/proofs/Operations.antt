@@ -1,0 +1,133 @@
+-- WHAT A REQUEST OF EACH OPERATION COMES TO: which of 11 to 22 can apply to operation n is computed from n. Assumes nothing.
+use mathlib.Core.Path.{_≡_, refl, sym, ap, ap₂, _∙_, subst}
+use mathlib.Core.Bool.{true, false, not, _&&_, _||_}
+use mathlib.Core.List.{List, [], _∷_, _++_}
+use Prim.Native.Nat.{ℕ, _+_, _*_, _≤_, _<_}
+use native.Mathlib.Omega.{arith}
+use borrow.Author.Tests.{ltb-false, lt-ltb, le-ltb}
+use lib.Dec.{ltb, eqb}
+use lib.IntN.{ℤ}
+use Rattle.rules.specs.Tests.{between, all}
+use Rattle.rules.specs.Surface.{Standing, slots, occupied}
+use Rattle.rules.specs.Empties.{cellsEmpty}
+use Rattle.rules.specs.Judging.{Line, _when_, first}
+use Rattle.meaning.specs.Numbers.{above}
+use Rattle.rules.specs.Requests.{operation, ruleOf, idAsked, wide, high, byte6, byte7, isPlace, isRemove, isPin, isExchange, byRule, needsOld, hasSize, zeros, pinned, idPlaced, slotOf, someFree, lowestFree, ground, position, rulePlace, anyCellTaken, soundLines, placeLines, judging, acceptedStep, judgedTo, stepOf}
+use Rattle.rules.specs.Place.{placeStep}
+use Rattle.rules.specs.declared.Step.{Step}
+use Rattle.rules.specs.declared.Step.the-variants.{Refused}
+use Rattle.rules.proofs.Tests.{or-left, or-right}
+use Rattle.meaning.proofs.First.{first-stop, first-over}
+use Rattle.meaning.specs.Change.{Taking}
+use Rattle.meaning.proofs.Tables.{lowest-some}
+use Rattle.meaning.proofs.Steps.{asking, then-false, sizes, Asked, asked, taking, stepOn, step-refused, ground-for}
+use Rattle.meaning.proofs.Steps.Asked.{place, remove, pin, exchange}
+
+-- ---- which operation is which
+
+module _ (q : List ℕ) where
+  -- a byte is one number
+  pub is : (k : ℕ) → operation q ≡ k → (j : ℕ) → eqb (operation q) j ≡ eqb k j
+  is k e j = ap (λ n. eqb n j) e
+
+  pub place-by : operation q ≡ 1 → byRule q ≡ true
+  place-by e = or-left (isPlace q) (isExchange q) (is 1 e 1)
+
+  pub exchange-by : operation q ≡ 4 → byRule q ≡ true
+  exchange-by e = or-right (isPlace q) (isExchange q) (is 4 e 4)
+
+  pub by-sized : byRule q ≡ true → hasSize q ≡ true
+  by-sized e = or-left (byRule q) (isPin q) e
+
+  pub pin-sized : operation q ≡ 3 → hasSize q ≡ true
+  pin-sized e = or-right (byRule q) (isPin q) (is 3 e 3)
+
+  pub remove-old : operation q ≡ 2 → needsOld q ≡ true
+  remove-old e = or-left (isRemove q) (isExchange q) (is 2 e 2)
+
+  pub exchange-old : operation q ≡ 4 → needsOld q ≡ true
+  exchange-old e = or-right (isRemove q) (isExchange q) (is 4 e 4)
+
+-- ---- what the lines of 11 to 17 tell where none of them applies
+
+module _ (t q : List ℕ) (e : first (soundLines t q) ≡ 0) where
+  pub rule-le : byRule q ≡ true → ruleOf q ≤ 2
+  rule-le p = ltb-false 2 (ruleOf q) (then-false (byRule q) _ p (asking t q e .rule))
+
+  pub size-some : hasSize q ≡ true → (1 ≤ wide q) × (1 ≤ high q)
+  size-some = sizes t q (asking t q e)
+
+  -- the fourth operation is the last
+  pub last-op : (operation q ≡ 1 → ⊥) → (operation q ≡ 2 → ⊥) → (operation q ≡ 3 → ⊥) → operation q ≡ 4
+  last-op a b c = go (asked q (asking t q e .op))
+    where
+      go : Asked q → operation q ≡ 4
+      go (place p) = absurd (a p)
+      go (remove p) = absurd (b p)
+      go (pin p) = absurd (c p)
+      go (exchange p) = p
+
+  -- the slot of the old module has it
+  pub old-taking : (W H : ℕ) (s : List ℤ) → Standing W H s t → needsOld q ≡ true → (i : ℕ) → i ≡ slotOf t (idAsked q) → Taking W H s t i
+  old-taking W H s d o i f = subst (Taking W H s t) (sym f) (taking W H s t q d (asking t q e) o .0)
+
+-- all but an exchange are judged on the surface as it is
+pub ground-same : (t q : List ℕ) → isExchange q ≡ false → ground t q ≡ t
+unfolding ground
+ground-same t q e = rw e
+
+-- ---- the lines for an operation n, where g is the ground on which its place is judged
+
+module _ (W H : ℕ) (t q : List ℕ) where
+  abbrev soundFor : ℕ → List Line
+  soundFor n =
+      11 when not (between 1 4 n) ∷
+      12 when not (all (eqb 0) (zeros q)) ∷
+      13 when ((eqb n 1 || eqb n 4) && ltb 2 (ruleOf q)) ∷
+      14 when eqb (idAsked q) 0 ∷
+      15 when ((eqb n 1 || eqb n 3) && idPlaced t (idAsked q)) ∷
+      16 when ((eqb n 2 || eqb n 4) && not (idPlaced t (idAsked q))) ∷
+      17 when (((eqb n 1 || eqb n 4) || eqb n 3) && (eqb (wide q) 0 || eqb (high q) 0)) ∷
+      []
+
+  abbrev placeFor : List ℕ → ℕ → List Line
+  placeFor g n =
+      18 when (eqb n 3 && (ltb W (byte6 q + wide q) || ltb H (byte7 q + high q))) ∷
+      19 when ((eqb n 1 || eqb n 3) && not (someFree t)) ∷
+      20 when ((eqb n 1 || eqb n 4) && not (position (occupied g) W H (wide q) (high q))) ∷
+      21 when (eqb n 3 && not (cellsEmpty (occupied g) (pinned q))) ∷
+      22 when ((eqb n 1 || eqb n 4) && anyCellTaken (occupied g) (rulePlace (occupied g) W H (ruleOf q) (wide q) (high q))) ∷
+      []
+
+  -- what operation n comes to on the ground g, once 11 to 17 are out of the way
+  abbrev pub judgedFor : List ℕ → ℕ → Step
+  judgedFor g n = judgedTo (first (placeFor g n)) (stepOn W H t q g n)
+
+  pub step-by : first (soundLines t q) ≡ 0 → (g : List ℕ) → ground t q ≡ g → (n : ℕ) → operation q ≡ n → stepOf W H t q ≡ judgedFor g n
+  unfolding stepOf placeLines acceptedStep
+  step-by s g f n e = ap (λ c. judgedTo c (acceptedStep W H t q)) (first-over (soundLines t q) (placeLines W H t q) (unfold soundLines above in refl) s) ∙ ap₂ judgedFor f e
+
+  pub step-unsound : (c : ℕ) → c ≡ first (soundLines t q) → (c ≡ 0 → ⊥) → Refused c ≡ stepOf W H t q
+  step-unsound c e n =
+      let j : first (judging W H t q) ≡ c = first-stop (soundLines t q) (placeLines W H t q) (λ z. n (e ∙ z)) ∙ sym e in
+      ap Refused (sym j) ∙ sym (step-refused W H t q (λ z. n (sym j ∙ z)))
+
+  -- A REQUEST FOR A PLACE COMES TO WHAT THE PLACE IN NUMBERS COMES TO, where 12 and 13 do not refuse it
+  pub place-in-numbers : operation q ≡ 1 → all (eqb 0) (zeros q) ≡ true → ruleOf q ≤ 2 → stepOf W H t q ≡ placeStep W H t (idAsked q) (ruleOf q) (wide q) (high q)
+  unfolding stepOf soundLines placeLines acceptedStep placeStep first
+  place-in-numbers e z r =
+      ap₂ (λ g n. judgedTo (first (soundFor n ++ placeFor g n)) (stepOn W H t q g n)) (ground-for t q 1 e) e ∙ rw (z, le-ltb 2 (ruleOf q) r)
+
+-- the request's bytes from the numbers: id is low + 256 · high
+pub place-bytes : (W H : ℕ) (t : List ℕ) (rule low high w h : ℕ) → rule ≤ 2 → stepOf W H t (1 ∷ rule ∷ low ∷ high ∷ w ∷ h ∷ 0 ∷ 0 ∷ []) ≡ placeStep W H t (low + 256 * high) rule w h
+unfolding zeros all
+place-bytes W H t rule low high w h r = place-in-numbers W H t (1 ∷ rule ∷ low ∷ high ∷ w ∷ h ∷ 0 ∷ 0 ∷ []) refl refl r
+
+-- ---- slots
+
+module _ (t : List ℕ) (i : ℕ) (e : i ≡ lowestFree t) where
+  pub none-free : slots t ≤ i → someFree t ≡ false
+  none-free h = sym (lowest-some t) ∙ le-ltb (lowestFree t) (slots t) (omega (arith, e))
+
+  pub one-free : i < slots t → someFree t ≡ true
+  one-free h = sym (lowest-some t) ∙ lt-ltb (lowestFree t) (slots t) (omega (arith, e))

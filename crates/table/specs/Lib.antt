@@ -1,0 +1,2 @@
+-- What a record written asks.
+pub mod Record
