@@ -199,52 +199,6 @@ fn done(b: Best) -> bool
     least == 0
 }
 
-// The list's rows in turn, up to an entry that is never beaten. scans, lefts, rights and heights hold one row's worth.
-fn best_on(
-    w: usize,
-    h: usize,
-    weights: &[i16],
-    table: &[u8],
-    rule: usize,
-    mw: usize,
-    mh: usize,
-    scans: &mut [u8],
-    lefts: &mut [u8],
-    rights: &mut [u8],
-    heights: &mut [u8],
-) -> Best
-    requires { ⌜ Standing w h (now weights) (now table) ⌝ }
-    requires { ⌜ rule ≤ 2 ⌝ }
-    requires { ⌜ (h ≤ length (now scans)) × (w ≤ length (now lefts)) × (w ≤ length (now rights)) × (w ≤ length (now heights)) ⌝ }
-    ensures { λ r. ⌜ r ≡ bestOf w h rule mw mh Nothing (listed (occupied (now (table .entry))) w h h) ⌝ }
-{
-    listing::scanned::scanned_rows(h, table, scans);
-    let mut best = Best::Nothing;
-    let mut y = 0;
-    while y < h {
-        best = best_row(
-            w,
-            h,
-            weights,
-            table,
-            rule,
-            mw,
-            mh,
-            scans,
-            y,
-            lefts,
-            rights,
-            heights,
-            best,
-        );
-        if done(best) {
-            return best;
-        }
-        y += 1;
-    }
-    best
-}
-
 // The place of the best entry.
 fn place_in(b: Best) -> Choice
     ensures { λ r. ⌜ r ≡ placeIn b ⌝ }
@@ -255,7 +209,8 @@ fn place_in(b: Best) -> Choice
     Choice::At(place)
 }
 
-// The place for a module of mw by mh cells that the rule chooses.
+// The place for a module of mw by mh cells that the rule chooses: the list's rows in turn, up to an entry that is never beaten. scans, lefts, rights and
+// heights hold one row's worth.
 pub fn choose(
     w: usize,
     h: usize,
@@ -273,18 +228,29 @@ pub fn choose(
     let mut lefts = [0u8; 64];
     let mut rights = [0u8; 64];
     let mut heights = [0u8; 64];
-    let best = best_on(
-        w,
-        h,
-        weights,
-        table,
-        rule,
-        mw,
-        mh,
-        &mut scans,
-        &mut lefts,
-        &mut rights,
-        &mut heights,
-    );
+    listing::scanned::scanned_rows(h, table, &mut scans);
+    let mut best = Best::Nothing;
+    let mut y = 0;
+    while y < h {
+        best = best_row(
+            w,
+            h,
+            weights,
+            table,
+            rule,
+            mw,
+            mh,
+            &scans,
+            y,
+            &mut lefts,
+            &mut rights,
+            &mut heights,
+            best,
+        );
+        if done(best) {
+            return place_in(best);
+        }
+        y += 1;
+    }
     place_in(best)
 }

@@ -85,33 +85,6 @@ fn write_row(
     }
 }
 
-// The entries of row y as records from `at` on.
-fn write_in(
-    w: usize,
-    h: usize,
-    weights: &[i16],
-    table: &[u8],
-    scans: &[u8],
-    y: usize,
-    lefts: &mut [u8],
-    rights: &mut [u8],
-    heights: &mut [u8],
-    room: &mut [u8],
-    at: usize,
-) -> Counts
-    requires { ⌜ Standing w h (now weights) (now table) ⌝ }
-    requires { ⌜ (y < h) × Scans h (now table) (now scans) ⌝ }
-    requires { ⌜ (w ≤ length (now lefts)) × (w ≤ length (now rights)) × (w ≤ length (now heights)) ⌝ }
-    requires { ⌜ at + length (recordsIn (occupied (now table)) w h y) ≤ length (now room) ⌝ }
-    ensures { λ r. ⌜ (8 * r .entries ≡ length (recordsIn (occupied (now (table .entry))) w h y)) × (now (room .exit) ≡ written at (recordsIn (occupied (now (table .entry))) w h y) (now (room .entry))) ⌝ }
-    ensures { λ r. ⌜ (r .entries ≤ w) × (r .corners ≡ count w (λ x. corner w h (now (table .entry)) x y)) × (r .corners ≤ w) ⌝ }
-{
-    let c = entries_in(w, h, weights, table, scans, y, lefts, rights, heights);
-    let n = c.entries;
-    write_row(y, n, lefts, rights, heights, room, at);
-    c
-}
-
 // The whole list as records from the start of the room, the rows one behind the other. "later bytes stay."
 pub fn write_list(
     w: usize,
@@ -136,20 +109,10 @@ pub fn write_list(
     let mut y = 0;
     while y < h {
         let at = 8 * found;
-        let c = write_in(
-            w,
-            h,
-            weights,
-            table,
-            scans,
-            y,
-            lefts,
-            rights,
-            heights,
-            room,
-            at,
-        );
-        found += c.entries;
+        let c = entries_in(w, h, weights, table, scans, y, lefts, rights, heights);
+        let n = c.entries;
+        write_row(y, n, lefts, rights, heights, room, at);
+        found += n;
         turned += c.corners;
         y += 1;
     }
@@ -157,32 +120,6 @@ pub fn write_list(
         entries: found,
         corners: turned,
     }
-}
-
-// How many entries the whole surface has.
-pub fn count_list(
-    w: usize,
-    h: usize,
-    weights: &[i16],
-    table: &[u8],
-    scans: &[u8],
-    lefts: &mut [u8],
-    rights: &mut [u8],
-    heights: &mut [u8],
-) -> usize
-    requires { ⌜ Standing w h (now weights) (now table) ⌝ }
-    requires { ⌜ Scans h (now table) (now scans) ⌝ }
-    requires { ⌜ (w ≤ length (now lefts)) × (w ≤ length (now rights)) × (w ≤ length (now heights)) ⌝ }
-    ensures { λ r. ⌜ r ≡ length (entries (occupied (now (table .entry))) w h) ⌝ }
-{
-    let mut found = 0;
-    let mut y = 0;
-    while y < h {
-        let c = entries_in(w, h, weights, table, scans, y, lefts, rights, heights);
-        found += c.entries;
-        y += 1;
-    }
-    found
 }
 
 // Code 7: "list room shorter than 8 bytes for each entry". "At most W·H entries exist", so that a room for as many asks for no counting.
@@ -205,35 +142,18 @@ fn short(
     if 8 * (w * h) <= n {
         return false;
     }
-    n < 8 * count_list(w, h, weights, table, scans, lefts, rights, heights)
+    let mut found = 0;
+    let mut y = 0;
+    while y < h {
+        let c = entries_in(w, h, weights, table, scans, y, lefts, rights, heights);
+        found += c.entries;
+        y += 1;
+    }
+    n < 8 * found
 }
 
 // The listing of a surface that stands: 7 and nothing written where the room is short. The list is not built anywhere: its rows are walked once,
 // and where the room might be short once more before. scans, lefts, rights and heights hold one row's worth.
-fn list_on(
-    w: usize,
-    h: usize,
-    weights: &[i16],
-    table: &[u8],
-    scans: &mut [u8],
-    lefts: &mut [u8],
-    rights: &mut [u8],
-    heights: &mut [u8],
-    room: &mut [u8],
-) -> u64
-    requires { ⌜ Standing w h (now weights) (now table) ⌝ }
-    requires { ⌜ (h ≤ length (now scans)) × (w ≤ length (now lefts)) × (w ≤ length (now rights)) × (w ≤ length (now heights)) ⌝ }
-    ensures { λ r. ⌜ (r ≡ listedResult w h (now (table .entry)) (now (room .entry))) × (now (room .exit) ≡ listedRoom w h (now (table .entry)) (now (room .entry))) ⌝ }
-{
-    scanned_rows(h, table, scans);
-    let n = room.len();
-    if short(w, h, weights, table, scans, lefts, rights, heights, n) {
-        return 7;
-    }
-    let c = write_list(w, h, weights, table, scans, lefts, rights, heights, room);
-    65536 * (c.entries as u64) + 4294967296 * (c.corners as u64)
-}
-
 pub fn list_standing(w: usize, h: usize, weights: &[i16], table: &[u8], room: &mut [u8]) -> u64
     requires { ⌜ Standing w h (now weights) (now table) ⌝ }
     ensures { λ r. ⌜ (r ≡ listedResult w h (now (table .entry)) (now (room .entry))) × (now (room .exit) ≡ listedRoom w h (now (table .entry)) (now (room .entry))) ⌝ }
@@ -242,15 +162,31 @@ pub fn list_standing(w: usize, h: usize, weights: &[i16], table: &[u8], room: &m
     let mut lefts = [0u8; 64];
     let mut rights = [0u8; 64];
     let mut heights = [0u8; 64];
-    list_on(
+    scanned_rows(h, table, &mut scans);
+    let n = room.len();
+    if short(
         w,
         h,
         weights,
         table,
-        &mut scans,
+        &scans,
+        &mut lefts,
+        &mut rights,
+        &mut heights,
+        n,
+    ) {
+        return 7;
+    }
+    let c = write_list(
+        w,
+        h,
+        weights,
+        table,
+        &scans,
         &mut lefts,
         &mut rights,
         &mut heights,
         room,
-    )
+    );
+    65536 * (c.entries as u64) + 4294967296 * (c.corners as u64)
 }

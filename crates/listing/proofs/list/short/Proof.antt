@@ -1,50 +1,102 @@
 -- `listing::list::short` meets its contract. Assumes nothing.
-use mathlib.Core.Path.{sym, ap}
-use Prim.Native.Nat.{_*_, _≤_}
+use mathlib.Core.Path.{_≡_, refl, sym, ap, _∙_}
+use Prim.Native.Nat.{_-_, _*_, _≤_}
 use native.Mathlib.Nat.{mul-le-mul}
 use native.Mathlib.Omega.{arith}
-use borrow.Author.Needs.{needs}
 use borrow.Author.Tests.{le-ltb}
 use lib.Dec.{ltb}
 use lib.ListN.{length}
 use Rattle.rules.specs.Surface.{occupied}
 use Rattle.rules.specs.Empties.{entries}
 use Rattle.meaning.proofs.Bound.{entries-few}
+use Rattle.listing.proofs.Counted.{Found, found-none, found-more, found-all}
 use Rattle.listing.proofs.list.short.Statement.{statement}
 use Rattle.listing.proofs.list.short.Tie as tie
 
+abbrev Inv-loop : tie.InvT-loop
+Inv-loop w h weights table scans lefts₀ rights₀ heights₀ n found₀ y₀ lefts rights heights found y =
+    (length lefts ≡ length lefts₀) × (length rights ≡ length rights₀) × (length heights ≡ length heights₀) × Found w h table found y
+
+abbrev μ-loop : tie.MeasureT-loop
+μ-loop w h weights table scans lefts₀ rights₀ heights₀ n found₀ y₀ lefts rights heights found y = h - y
+
+abbrev start : tie.At-loop Inv-loop μ-loop → tie.Start Inv-loop μ-loop
+start c = c .before .before .before .before .before .before .before
+
+abbrev entered : tie.After-entries-in-arg3 Inv-loop μ-loop → tie.In-loop Inv-loop μ-loop
+entered c = c .before .before .before
+
+abbrev listed : tie.After-struct-known Inv-loop μ-loop → tie.After-entries-in Inv-loop μ-loop
+listed c = c .before .before .before .before .before .before .before
+
 -- as many entries as cells, and not many cells
-wide : (s : tie.Start) → (s .args .w * s .args .h ≤ 64 * 64) × (length (entries (occupied (s .args .table .now)) (s .args .w) (s .args .h)) ≤ s .args .w * s .args .h)
+wide : (s : tie.Start Inv-loop μ-loop) → (s .args .w * s .args .h ≤ 64 * 64) × (length (entries (occupied (s .args .table .now)) (s .args .w) (s .args .h)) ≤ s .args .w * s .args .h)
 wide s = (mul-le-mul (s .pre .0 .sides .widest) (s .pre .0 .sides .highest), entries-few (occupied (s .args .table .now)) (s .args .w) (s .args .h))
 
-mul-if1 : tie.Need-mul-if1
+mul-if1 : tie.Need-mul-if1 Inv-loop μ-loop
 mul-if1 c = omega (arith, wide (c .before .before .before .before .before))
 
-mul-if1-2 : tie.Need-mul-if1-2
+mul-if1-2 : tie.Need-mul-if1-2 Inv-loop μ-loop
 mul-if1-2 c = omega (arith, wide (c .before .before .before .before .before))
 
-returns : tie.Need-returns
+returns : tie.Need-returns Inv-loop μ-loop
 returns c = let s = c .before .before .before .before .before .before in sym (le-ltb (s .args .n) (8 * length (entries (occupied (s .args .table .now)) (s .args .w) (s .args .h))) (omega (arith, wide s .1, c .if1 .taken)))
 
-count-list-requires : tie.Need-count-list-requires
-count-list-requires c κs = c .before .before .before .before .before .before .before .before .before .pre
+loop-holds : tie.Need-loop-holds Inv-loop μ-loop
+loop-holds c = (refl, refl, refl, found-none _ _ _)
 
-mul-result : tie.Need-mul-result
-mul-result c = omega (arith, c .before .before .before .before .before .before .count-list .ensures, wide (c .before .before .before .before .before .before .before .before .before .before .before .before .before .before .before .before))
+entries-in-requires : tie.Need-entries-in-requires Inv-loop μ-loop
+entries-in-requires c κs =
+    let l = entered c .before in
+    let p = start l .pre in
+    let i = l .loop .inv in
+    (p .0, ((entered c .loop-test .taken, p .1 .0), (omega (arith, i .0, p .1 .1 .0), omega (arith, i .1, p .1 .1 .1), omega (arith, i .2, p .1 .1 .2))))
 
-returns-2 : tie.Need-returns-2
-returns-2 c = let s = c .before .before .before .before .before .before .before .before .before .before .before .before .before .before .before .before in ap (λ k. ltb (s .args .n) (8 * k)) (c .before .before .before .before .before .before .count-list .ensures)
+add-found : tie.Need-add-found Inv-loop μ-loop
+add-found c =
+    let e = listed c in
+    let t = entered (e .before) in
+    let p = start (t .before) .pre .0 in
+    omega (arith, e .entries-in .ensures .1 .0 .1, t .before .loop .inv .3 .few, t .loop-test .taken, p .sides .widest, p .sides .highest)
+
+add-y : tie.Need-add-y Inv-loop μ-loop
+add-y c = omega (arith, entered (listed c .before) .loop-test .taken)
+
+loop-less : tie.Need-loop-less Inv-loop μ-loop
+loop-less c = omega (arith, entered (listed c .before) .loop-test .taken)
+
+loop-again : tie.Need-loop-again Inv-loop μ-loop
+loop-again c =
+    let e = listed c in
+    let t = entered (e .before) in
+    let i = t .before .loop .inv in
+    let k = e .entries-in .kept .1 .1 .1 .1 .1 .1 in
+    let n = e .entries-in .ensures .1 .0 in
+    (k .0 ∙ i .0, k .1 .0 ∙ i .1, k .1 .1 .0 ∙ i .2, found-more _ _ _ _ _ _ (i .3) (start (t .before) .pre .0 .sides .widest) (t .loop-test .taken) (n .0) (n .1))
+
+mul-result : tie.Need-mul-result Inv-loop μ-loop
+mul-result c = let f = c .before .loop .inv .3 in omega (arith, f .few, f .upto, start (c .before) .pre .0 .sides .highest)
+
+returns-2 : tie.Need-returns-2 Inv-loop μ-loop
+returns-2 c = ap (λ k. ltb (start (c .before) .args .n) (8 * k)) (found-all _ _ _ _ _ (c .before .loop .inv .3) (c .loop-test .left))
 
 pub short-spec : {M : Type 1} → statement M
 short-spec =
     tie.close
     (tie.spec
+    Inv-loop
+    μ-loop
     mul-if1
     mul-if1-2
     returns
-    count-list-requires
+    loop-holds
+    entries-in-requires
+    add-found
+    add-y
+    loop-less
+    loop-again
     mul-result
-    (λ c. search needs)
-    (λ c. search needs)
-    (λ c. search needs)
+    (λ c. c .before .loop .inv .0)
+    (λ c. c .before .loop .inv .1)
+    (λ c. c .before .loop .inv .2)
     returns-2)
