@@ -157,7 +157,7 @@ fn row_has_room(
     false
 }
 
-// The entries of row y in turn, b being the best of the rows above. A row that is not scanned has none, and one without room has none with room.
+// The entries of row y in turn, b being the best of the rows above. A row without room has none with room.
 fn best_row(
     w: usize,
     h: usize,
@@ -166,7 +166,6 @@ fn best_row(
     rule: usize,
     mw: usize,
     mh: usize,
-    scans: &[u8],
     y: usize,
     lefts: &mut [u8],
     rights: &mut [u8],
@@ -174,19 +173,15 @@ fn best_row(
     b: Best,
 ) -> Best
     requires { ⌜ Standing w h (now weights) (now table) ⌝ }
-    requires { ⌜ (rule ≤ 2) × (y < h) × Scans h (now table) (now scans) ⌝ }
+    requires { ⌜ (rule ≤ 2) × (y < h) ⌝ }
     requires { ⌜ (w ≤ length (now lefts)) × (w ≤ length (now rights)) × (w ≤ length (now heights)) ⌝ }
     ensures { λ r. ⌜ r ≡ bestOf w h rule mw mh b (rectsIn (occupied (now (table .entry))) w h y) ⌝ }
 {
-    if scans[y] == 0 {
-        return b;
-    }
     if !row_has_room(w, h, weights, table, y, mw, mh) {
         return b;
     }
     let c = listing::row::row(w, h, weights, table, y, lefts, rights, heights);
-    let n = c.entries;
-    best_in(w, h, mw, mh, rule, y, n, lefts, rights, heights, b)
+    best_in(w, h, mw, mh, rule, y, c.entries, lefts, rights, heights, b)
 }
 
 // An entry that costs nothing is the choice: "Ties go to the earlier entry."
@@ -209,8 +204,8 @@ fn place_in(b: Best) -> Choice
     Choice::At(place)
 }
 
-// The place for a module of mw by mh cells that the rule chooses: the list's rows in turn, up to an entry that is never beaten. scans, lefts, rights and
-// heights hold one row's worth.
+// The place for a module of mw by mh cells that the rule chooses: the scanned rows in turn, up to an entry that is never beaten. A row that is not
+// scanned has no entry.
 pub fn choose(
     w: usize,
     h: usize,
@@ -232,25 +227,28 @@ pub fn choose(
     let mut best = Best::Nothing;
     let mut y = 0;
     while y < h {
-        best = best_row(
-            w,
-            h,
-            weights,
-            table,
-            rule,
-            mw,
-            mh,
-            &scans,
-            y,
-            &mut lefts,
-            &mut rights,
-            &mut heights,
-            best,
-        );
-        if done(best) {
-            return place_in(best);
+        if scans[y] == 0 {
+            y += 1;
+        } else {
+            best = best_row(
+                w,
+                h,
+                weights,
+                table,
+                rule,
+                mw,
+                mh,
+                y,
+                &mut lefts,
+                &mut rights,
+                &mut heights,
+                best,
+            );
+            if done(best) {
+                return place_in(best);
+            }
+            y += 1;
         }
-        y += 1;
     }
     place_in(best)
 }

@@ -2,7 +2,7 @@
 use mathlib.Core.Path.{_≡_, refl, sym, ap, _∙_, subst}
 use mathlib.Core.Logic.{inl, inr, ⊎-elim, _↔_}
 use mathlib.Core.Bool.{Bool, false}
-use mathlib.Core.List.{List, [], _∷_, List·Memᴰ, List·Memᴰ·head, List·Memᴰ·tail, List·Memᴰ·not-nil, List·Memᴰ·cases-cons, Memᴰ·map, Memᴰ·of-map, Memᴰ·cast}
+use mathlib.Core.List.{List, [], map, _∷_, List·Memᴰ, List·Memᴰ·head, List·Memᴰ·tail, List·Memᴰ·not-nil, List·Memᴰ·cases-cons, Memᴰ·map, Memᴰ·of-map, Memᴰ·cast}
 use Prim.Native.Nat.{ℕ, suc, _+_, _-_, _≤_, _<_}
 use native.Mathlib.Nat.{le-refl}
 use native.Mathlib.Omega.{arith}
@@ -146,6 +146,10 @@ unscanned t W H y h e =
     let o = of-entry (occupied t) W H y a h m in
     let q : suc y - a .high + a .high - 1 ≡ y = omega (arith, o .bottom) in
     not-both (scanned H t y) (ap (scanned H t) (sym q) ∙ bottom-scanned t W H (entryRect y a) (o .isMaximal)) e)
+
+pub unscanned-rects : (t : List ℕ) (W H y : ℕ) → y < H → scanned H t y ≡ false → rectsIn (occupied t) W H y ≡ []
+unfolding rectsIn
+unscanned-rects t W H y h e = ap (map (entryRect y)) (unscanned t W H y h e)
 
 pub rects-length : (occ : ℕ → ℕ → Bool) (W H y : ℕ) → length (rectsIn occ W H y) ≡ length (entriesIn occ W H y)
 unfolding rectsIn

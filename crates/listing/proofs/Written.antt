@@ -195,6 +195,13 @@ module _ (occ : ℕ → ℕ → Bool) (W H : ℕ) where
               ∙ written-more 0 R p room₀ (omega (arith, low-fits y (w .upto))) ∙ ap (λ r. written 0 r room₀) (sym (records-more y));
         }
 
+    -- a row without entries
+    pub wrote-skip : (room : List ℕ) (y at : ℕ) → Wrote room₀ room y at → y < H → rectsIn occ W H y ≡ [] → Wrote room₀ room (y + 1) at
+    unfolding entryRecords
+    wrote-skip room y at w h e =
+        let none : recordsIn occ W H y ≡ [] = ap entryRecords e in
+        wrote-more room room y at at w h (omega (arith, ap length none)) (written-none at room ∙ ap (λ p. written at p room) (sym none))
+
     pub wrote-all : (room : List ℕ) (y at : ℕ) → Wrote room₀ room y at → H ≤ y → room ≡ entryRecords (entries occ W H) ++ drop (8 * length (entries occ W H)) room₀
     unfolding written
     wrote-all room y at w h =

@@ -1,11 +1,14 @@
 -- `choice::choose` meets its contract. Assumes nothing.
 use mathlib.Core.Path.{_≡_, refl, sym, ap, _∙_}
+use mathlib.Core.List.{[]}
 use Prim.Native.Nat.{_+_, _-_, _≤_}
 use native.Mathlib.Omega.{arith}
 use lib.ListN.{length}
 use Rattle.rules.specs.Surface.{occupied}
 use Rattle.rules.specs.Requests.{rulePlace}
-use Rattle.listing.specs.Listed.{listed}
+use Rattle.listing.specs.Listed.{listed, rectsIn}
+use Rattle.listing.proofs.ListLaws.{unscanned-rects}
+use Rattle.listing.proofs.ScanLaws.{scan-no}
 use Rattle.choice.specs.Best.{bestOf, unbeaten, placeIn, Chosen}
 use Rattle.choice.specs.declared.Best.{Best}
 use Rattle.choice.specs.declared.Choice.{Choice}
@@ -31,13 +34,14 @@ entered c = c .before .before .before .before
 abbrev rowed : tie.After-done Inv-loop μ-loop → tie.After-best-row Inv-loop μ-loop
 rowed c = c .before .before .before .before
 
--- with row y the best is that of one row more
-now-best : (c : tie.After-best-row Inv-loop μ-loop) → let l = entered (c .before) .before in let a = start l .args in
-    c .best-row .result ≡ bestOf (a .w) (a .h) (a .rule) (a .mw) (a .mh) Nothing (listed (occupied (a .table .now)) (a .w) (a .h) (l .loop .y + 1))
-now-best c =
-    let l = entered (c .before) .before in
+-- one row more
+rows : (t : tie.In-loop Inv-loop μ-loop) (b : Best) → let l = t .before in let a = start l .args in
+    b ≡ bestOf (a .w) (a .h) (a .rule) (a .mw) (a .mh) (l .loop .best) (rectsIn (occupied (a .table .now)) (a .w) (a .h) (l .loop .y))
+    → b ≡ bestOf (a .w) (a .h) (a .rule) (a .mw) (a .mh) Nothing (listed (occupied (a .table .now)) (a .w) (a .h) (l .loop .y + 1))
+rows t b e =
+    let l = t .before in
     let a = start l .args in
-    rows-more (a .w) (a .h) (a .rule) (a .mw) (a .mh) (occupied (a .table .now)) (l .loop .y) (l .loop .best) (c .best-row .result) (l .loop .inv .4) (c .best-row .ensures)
+    rows-more (a .w) (a .h) (a .rule) (a .mw) (a .mh) (occupied (a .table .now)) (l .loop .y) (l .loop .best) b (l .loop .inv .4) e
 
 -- the best of all rows is what the rule chooses
 chosen : (s : tie.Start Inv-loop μ-loop) (b : Best) (r : Choice) → let a = s .args in
@@ -45,12 +49,24 @@ chosen : (s : tie.Start Inv-loop μ-loop) (b : Best) (r : Choice) → let a = s 
 chosen s b r p q = let a = s .args in chosen-by _ _ (p ∙ ap placeIn q ∙ walk-chosen (a .w) (a .h) (a .rule) (a .mw) (a .mh) (occupied (a .table .now)))
 
 scanned-rows-requires : tie.Need-scanned-rows-requires Inv-loop μ-loop
-scanned-rows-requires c κs =
-    let p = c .before .before .pre .0 in
-    (p .whole, (p .sides .high, p .sides .highest))
+scanned-rows-requires c κs = let p = c .before .before .pre .0 in (p .whole, (p .sides .high, p .sides .highest))
 
 loop-holds : tie.Need-loop-holds Inv-loop μ-loop
 loop-holds c = let a = c .before .before .before .before .args in (refl, refl, refl, omega arith, rows-none (a .w) (a .h) (a .rule) (a .mw) (a .mh) (occupied (a .table .now)))
+
+array-read-if1 : tie.Need-array-read-if1 Inv-loop μ-loop
+array-read-if1 c = omega (arith, c .loop-test .taken, c .before .before .before .scanned-rows .ensures .long)
+
+loop-again : tie.Need-loop-again Inv-loop μ-loop
+unfolding bestOf
+loop-again c =
+    let t = c .before in
+    let l = t .before in
+    let a = start l .args in
+    let none : rectsIn (occupied (a .table .now)) (a .w) (a .h) (l .loop .y) ≡ [] =
+    unscanned-rects (a .table .now) (a .w) (a .h) (l .loop .y) (t .loop-test .taken) (scan-no (l .before .before .scanned-rows .ensures) _ (t .loop-test .taken) (c .if1 .taken)) in
+    let i = l .loop .inv in
+    (i .0, i .1, i .2, omega (arith, t .loop-test .taken), rows t (l .loop .best) (ap (bestOf (a .w) (a .h) (a .rule) (a .mw) (a .mh) (l .loop .best)) (sym none)))
 
 best-row-requires : tie.Need-best-row-requires Inv-loop μ-loop
 best-row-requires c κs =
@@ -58,7 +74,7 @@ best-row-requires c κs =
     let p = start (t .before) .pre in
     let i = t .before .loop .inv in
     let m = p .0 .sides .widest in
-    (p .0, ((p .1, t .loop-test .taken, t .before .before .before .scanned-rows .ensures), (omega (arith, i .0, m), omega (arith, i .1, m), omega (arith, i .2, m))))
+    (p .0, ((p .1, t .loop-test .taken), (omega (arith, i .0, m), omega (arith, i .1, m), omega (arith, i .2, m))))
 
 returns : tie.Need-returns Inv-loop μ-loop
 returns c =
@@ -67,24 +83,19 @@ returns c =
     let t = entered (r .before) in
     let s = start (t .before) in
     let a = s .args in
+    let best = rows t _ (r .best-row .ensures) in
     chosen s _ _ (c .place-in .ensures)
-    (now-best r
+    (best
     ∙ rows-unbeaten (a .w) (a .h) (a .rule) (a .mw) (a .mh) (occupied (a .table .now)) (t .before .loop .y + 1) (a .h) (omega (arith, t .loop-test .taken))
-    (ap unbeaten (sym (now-best r)) ∙ sym (d .done .ensures) ∙ c .before .if1 .taken))
+    (ap unbeaten (sym best) ∙ sym (d .done .ensures) ∙ c .before .if2 .taken))
 
-add-y : tie.Need-add-y Inv-loop μ-loop
-add-y c = omega (arith, entered (rowed (c .before) .before) .loop-test .taken)
-
-loop-less : tie.Need-loop-less Inv-loop μ-loop
-loop-less c = omega (arith, entered (rowed (c .before) .before) .loop-test .taken)
-
-loop-again : tie.Need-loop-again Inv-loop μ-loop
-loop-again c =
+loop-again-2 : tie.Need-loop-again-2 Inv-loop μ-loop
+loop-again-2 c =
     let r = rowed (c .before) in
     let t = entered (r .before) in
     let i = t .before .loop .inv in
-    let k = r .best-row .kept .1 .1 .1 .1 .1 .1 .1 .1 .1 in
-    (k .0 ∙ i .0, k .1 .0 ∙ i .1, k .1 .1 .0 ∙ i .2, omega (arith, t .loop-test .taken), now-best r)
+    let k = r .best-row .kept .1 .1 .1 .1 .1 .1 .1 .1 in
+    (k .0 ∙ i .0, k .1 .0 ∙ i .1, k .1 .1 .0 ∙ i .2, omega (arith, t .loop-test .taken), rows t _ (r .best-row .ensures))
 
 returns-2 : tie.Need-returns-2 Inv-loop μ-loop
 returns-2 c =
@@ -104,7 +115,10 @@ choose-spec =
     (λ c. search needs)
     scanned-rows-requires
     loop-holds
-    (λ c. search needs)
+    array-read-if1
+    (λ c. omega (arith, c .before .loop-test .taken))
+    (λ c. omega (arith, c .before .loop-test .taken))
+    loop-again
     (λ c. search needs)
     (λ c. search needs)
     (λ c. search needs)
@@ -112,8 +126,8 @@ choose-spec =
     (λ c κs. search needs)
     (λ c κs. search needs)
     returns
-    add-y
-    loop-less
-    loop-again
+    (λ c. omega (arith, entered (rowed (c .before) .before) .loop-test .taken))
+    (λ c. omega (arith, entered (rowed (c .before) .before) .loop-test .taken))
+    loop-again-2
     (λ c κs. search needs)
     returns-2)

@@ -3,75 +3,80 @@ use mathlib.Core.Path.{_≡_, refl, sym, ap, _∙_}
 use Prim.Native.Nat.{_-_, _*_, _≤_}
 use native.Mathlib.Nat.{mul-le-mul}
 use native.Mathlib.Omega.{arith}
+use borrow.Author.Needs.{needs}
 use borrow.Author.Tests.{le-ltb}
 use lib.Dec.{ltb}
 use lib.ListN.{length}
 use Rattle.rules.specs.Surface.{occupied}
 use Rattle.rules.specs.Empties.{entries}
 use Rattle.meaning.proofs.Bound.{entries-few}
-use Rattle.listing.proofs.Counted.{Found, found-none, found-more, found-all}
+use Rattle.listing.proofs.ScanLaws.{scan-no}
+use Rattle.listing.proofs.Counted.{Found, found-none, found-more, found-skip, found-all}
 use Rattle.listing.proofs.list.short.Statement.{statement}
 use Rattle.listing.proofs.list.short.Tie as tie
 
 abbrev Inv-loop : tie.InvT-loop
-Inv-loop w h weights table scans lefts₀ rights₀ heights₀ n found₀ y₀ lefts rights heights found y =
-    (length lefts ≡ length lefts₀) × (length rights ≡ length rights₀) × (length heights ≡ length heights₀) × Found w h table found y
+Inv-loop w h weights table scans n lefts₀ rights₀ heights₀ found₀ y₀ lefts rights heights found y =
+    (length lefts ≡ 64) × (length rights ≡ 64) × (length heights ≡ 64) × Found w h table found y
 
 abbrev μ-loop : tie.MeasureT-loop
-μ-loop w h weights table scans lefts₀ rights₀ heights₀ n found₀ y₀ lefts rights heights found y = h - y
+μ-loop w h weights table scans n lefts₀ rights₀ heights₀ found₀ y₀ lefts rights heights found y = h - y
 
 abbrev start : tie.At-loop Inv-loop μ-loop → tie.Start Inv-loop μ-loop
-start c = c .before .before .before .before .before .before .before
+start c = c .before .before .before .before
 
-abbrev entered : tie.After-entries-in-arg3 Inv-loop μ-loop → tie.In-loop Inv-loop μ-loop
-entered c = c .before .before .before
+abbrev entered : tie.After-heights Inv-loop μ-loop → tie.In-loop Inv-loop μ-loop
+entered c = c .before .before .before .before .before
 
-abbrev listed : tie.After-struct-known Inv-loop μ-loop → tie.After-entries-in Inv-loop μ-loop
-listed c = c .before .before .before .before .before .before .before
+abbrev rowed : tie.After-struct-known Inv-loop μ-loop → tie.After-row Inv-loop μ-loop
+rowed c = c .before .before .before .before
 
 -- as many entries as cells, and not many cells
 wide : (s : tie.Start Inv-loop μ-loop) → (s .args .w * s .args .h ≤ 64 * 64) × (length (entries (occupied (s .args .table .now)) (s .args .w) (s .args .h)) ≤ s .args .w * s .args .h)
 wide s = (mul-le-mul (s .pre .0 .sides .widest) (s .pre .0 .sides .highest), entries-few (occupied (s .args .table .now)) (s .args .w) (s .args .h))
 
 mul-if1 : tie.Need-mul-if1 Inv-loop μ-loop
-mul-if1 c = omega (arith, wide (c .before .before .before .before .before))
+mul-if1 c = omega (arith, wide (c .before .before))
 
 mul-if1-2 : tie.Need-mul-if1-2 Inv-loop μ-loop
-mul-if1-2 c = omega (arith, wide (c .before .before .before .before .before))
+mul-if1-2 c = omega (arith, wide (c .before .before))
 
 returns : tie.Need-returns Inv-loop μ-loop
-returns c = let s = c .before .before .before .before .before .before in sym (le-ltb (s .args .n) (8 * length (entries (occupied (s .args .table .now)) (s .args .w) (s .args .h))) (omega (arith, wide s .1, c .if1 .taken)))
+returns c = let s = c .before .before .before in sym (le-ltb (s .args .n) (8 * length (entries (occupied (s .args .table .now)) (s .args .w) (s .args .h))) (omega (arith, wide s .1, c .if1 .taken)))
 
 loop-holds : tie.Need-loop-holds Inv-loop μ-loop
 loop-holds c = (refl, refl, refl, found-none _ _ _)
 
-entries-in-requires : tie.Need-entries-in-requires Inv-loop μ-loop
-entries-in-requires c κs =
-    let l = entered c .before in
-    let p = start l .pre in
-    let i = l .loop .inv in
-    (p .0, ((entered c .loop-test .taken, p .1 .0), (omega (arith, i .0, p .1 .1 .0), omega (arith, i .1, p .1 .1 .1), omega (arith, i .2, p .1 .1 .2))))
-
-add-found : tie.Need-add-found Inv-loop μ-loop
-add-found c =
-    let e = listed c in
-    let t = entered (e .before) in
-    let p = start (t .before) .pre .0 in
-    omega (arith, e .entries-in .ensures .1 .0 .1, t .before .loop .inv .3 .few, t .loop-test .taken, p .sides .widest, p .sides .highest)
-
-add-y : tie.Need-add-y Inv-loop μ-loop
-add-y c = omega (arith, entered (listed c .before) .loop-test .taken)
-
-loop-less : tie.Need-loop-less Inv-loop μ-loop
-loop-less c = omega (arith, entered (listed c .before) .loop-test .taken)
+shared-slice-read-if2 : tie.Need-shared-slice-read-if2 Inv-loop μ-loop
+shared-slice-read-if2 c = let t = c .before in omega (arith, t .loop-test .taken, start (t .before) .pre .1 .long)
 
 loop-again : tie.Need-loop-again Inv-loop μ-loop
 loop-again c =
-    let e = listed c in
-    let t = entered (e .before) in
+    let t = c .before .before in
     let i = t .before .loop .inv in
-    let k = e .entries-in .kept .1 .1 .1 .1 .1 .1 in
-    let n = e .entries-in .ensures .1 .0 in
+    (i .0, i .1, i .2, found-skip _ _ _ _ _ (i .3) (t .loop-test .taken) (scan-no (start (t .before) .pre .1) _ (t .loop-test .taken) (c .if2 .taken)))
+
+row-requires : tie.Need-row-requires Inv-loop μ-loop
+row-requires c κs =
+    let t = entered c in
+    let p = start (t .before) .pre .0 in
+    let i = t .before .loop .inv in
+    (p, (t .loop-test .taken, (omega (arith, i .0, p .sides .widest), omega (arith, i .1, p .sides .widest), omega (arith, i .2, p .sides .widest))))
+
+add-found : tie.Need-add-found Inv-loop μ-loop
+add-found c =
+    let r = rowed c in
+    let t = entered (r .before) in
+    let p = start (t .before) .pre .0 in
+    omega (arith, r .row .ensures .1 .0 .1, t .before .loop .inv .3 .few, t .loop-test .taken, p .sides .widest, p .sides .highest)
+
+loop-again-2 : tie.Need-loop-again-2 Inv-loop μ-loop
+loop-again-2 c =
+    let r = rowed c in
+    let t = entered (r .before) in
+    let i = t .before .loop .inv in
+    let k = r .row .kept .1 .1 .1 .1 .1 in
+    let n = r .row .ensures .1 .0 in
     (k .0 ∙ i .0, k .1 .0 ∙ i .1, k .1 .1 .0 ∙ i .2, found-more _ _ _ _ _ _ (i .3) (start (t .before) .pre .0 .sides .widest) (t .loop-test .taken) (n .0) (n .1))
 
 mul-result : tie.Need-mul-result Inv-loop μ-loop
@@ -90,13 +95,17 @@ short-spec =
     mul-if1-2
     returns
     loop-holds
-    entries-in-requires
-    add-found
-    add-y
-    loop-less
+    shared-slice-read-if2
+    (λ c. omega (arith, c .before .before .loop-test .taken))
+    (λ c. omega (arith, c .before .before .loop-test .taken))
     loop-again
+    (λ c. search needs)
+    (λ c. search needs)
+    (λ c. search needs)
+    row-requires
+    add-found
+    (λ c. omega (arith, entered (rowed c .before) .loop-test .taken))
+    (λ c. omega (arith, entered (rowed c .before) .loop-test .taken))
+    loop-again-2
     mul-result
-    (λ c. c .before .loop .inv .0)
-    (λ c. c .before .loop .inv .1)
-    (λ c. c .before .loop .inv .2)
     returns-2)
