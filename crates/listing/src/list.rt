@@ -19,17 +19,20 @@ fn put_entry(a: &mut [u8], y: usize, left: u8, right: u8, high: u8)
     requires { ⌜ (length (now a) ≡ 8) × Drawn y (entry left right high) ⌝ }
     ensures { λ _. ⌜ now (a .exit) ≡ entryRecord (entryRect y (entry left right high)) ⌝ }
 {
-    let w = right + 1 - left;
+    let wide = right + 1 - left;
     let tall = high as usize;
-    let area = (w as usize) * tall;
-    a[0] = left;
-    a[1] = (y + 1 - tall) as u8;
-    a[2] = w;
-    a[3] = high;
-    a[4] = (area % 256) as u8;
-    a[5] = (area / 256) as u8;
-    a[6] = 0;
-    a[7] = 0;
+    let area = (wide as usize) * tall;
+    table::put_eight(
+        a,
+        left,
+        (y + 1 - tall) as u8,
+        wide,
+        high,
+        (area % 256) as u8,
+        (area / 256) as u8,
+        0,
+        0,
+    );
 }
 
 // The n entries of row y as records from `at` on.

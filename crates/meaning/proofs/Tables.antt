@@ -95,15 +95,6 @@ module _ (t : List ℕ) (i : ℕ) (r : List ℕ) (eight : length r ≡ 8) (fits 
             by-less j i (λ lo. sets-low 0 r t (8 * i) (8 * j + k) (omega arith)) (λ hi. sets-high 0 r t (8 * i) (8 * j + k) (omega arith));
       }
 
--- eight stores, one after the other
-pub eight-stores : (l : List ℕ) (at a b c d e f g h : ℕ) →
-    set (set (set (set (set (set (set (set l at a) (at + 1) b) (at + 2) c) (at + 3) d) (at + 4) e) (at + 5) f) (at + 6) g) (at + 7) h
-    ≡ sets l at (a ∷ b ∷ c ∷ d ∷ e ∷ f ∷ g ∷ h ∷ [])
-eight-stores l at a b c d e f g h =
-    let next : (n : ℕ) → at + suc n ≡ suc (at + n) = λ n. omega arith in
-    let none : at + 0 ≡ at = omega arith in
-    rw (next 6, next 5, next 4, next 3, next 2, next 1, next 0, none)
-
 -- ==== slots that are looked for
 
 module _ (n : ℕ) (p : ℕ → Bool) where

@@ -1,14 +1,11 @@
 -- WHAT AN ACCEPTED REQUEST TELLS: its change may be made. And what serving leaves: a surface that stands. Assumes nothing.
 use mathlib.Core.Path.{_≡_, refl, sym, ap, ap₂, _∙_, subst, subst₂}
 use mathlib.Core.Bool.{true, false}
-use mathlib.Core.List.{List, [], _∷_}
+use mathlib.Core.List.{List}
 use Prim.Native.Nat.{ℕ}
 use native.Mathlib.Omega.{arith}
 use borrow.Author.Tests.{ne-eqb, eqb-true}
 use lib.IntN.{ℤ}
-use lib.ListN.{length}
-use lib.Seq.{sets}
-use Rattle.cells.proofs.Upto.{filled}
 use Rattle.rules.specs.Surface.{Standing, rectOf, recordOf, freeRecord, withRecord, fresh}
 use Rattle.rules.specs.Requests.{operation, idLow, idHigh, idAsked, isExchange, slotOf, ground, stepOf, answerOf, recordAfter, tableAfter, weightsAfter, acceptedOne, isRemove}
 use Rattle.rules.specs.declared.Rect.{Rect}
@@ -75,10 +72,6 @@ on-bytes W H s t r d o = record {
   w = omega (arith, d .sides .widest, o .columns);
   h = omega (arith, d .sides .highest, o .lines);
 }
-
-pub answered : (l : List ℕ) (a b c d x y w h x′ y′ w′ h′ : ℕ) → length l ≡ 8 → x ≡ x′ → y ≡ y′ → w ≡ w′ → h ≡ h′ →
-    sets l 0 (a ∷ b ∷ c ∷ d ∷ x ∷ y ∷ w ∷ h ∷ []) ≡ a ∷ b ∷ c ∷ d ∷ x′ ∷ y′ ∷ w′ ∷ h′ ∷ []
-answered l a b c d x y w h x′ y′ w′ h′ e p q r s = filled l (a ∷ b ∷ c ∷ d ∷ x ∷ y ∷ w ∷ h ∷ []) e ∙ (λ j. a ∷ b ∷ c ∷ d ∷ p j ∷ q j ∷ r j ∷ s j ∷ [])
 
 -- what judging left, by the step that it came to
 module _ (W H : ℕ) (q : List ℕ) (s : List ℤ) (t : List ℕ) (s′ : List ℤ) (t′ : List ℕ) (d : Step) (j : Judged W H q s t s′ t′ d) where

@@ -45,10 +45,14 @@ all-sum (a ∷ l) = ap (λ b. b && eqb 0 a) (all-sum l) ∙ sum-more a (sum l)
 sum-is : (n : ℕ) (l : List ℕ) → n ≡ sum l → not (eqb n 0) ≡ not (all (eqb 0) l)
 sum-is n l e = ap (λ k. not (eqb k 0)) e ∙ sym (ap not (all-sum l))
 
+-- five of them, as they are read
+pub five-zero : {a b c d e a′ b′ c′ d′ e′ : ℕ} → a ≡ a′ → b ≡ b′ → c ≡ c′ → d ≡ d′ → e ≡ e′ → not (eqb (a + b + c + d + e) 0) ≡ not (all (eqb 0) (a′ ∷ b′ ∷ c′ ∷ d′ ∷ e′ ∷ []))
+five-zero {a} {b} {c} {d} {e} {a′} {b′} {c′} {d′} {e′} ea eb ec ed ee = sum-is (a + b + c + d + e) (a′ ∷ b′ ∷ c′ ∷ d′ ∷ e′ ∷ []) (omega arith)
+
 module _ (q : List ℕ) where
-  pub stray-remove : (a b c d e : ℕ) → isRemove q ≡ true → a ≡ ruleOf q → b ≡ wide q → c ≡ high q → d ≡ byte6 q → e ≡ byte7 q → not (eqb (a + b + c + d + e) 0) ≡ stray q
+  pub stray-remove : isRemove q ≡ true → not (all (eqb 0) (ruleOf q ∷ wide q ∷ high q ∷ byte6 q ∷ byte7 q ∷ [])) ≡ stray q
   unfolding stray zeros
-  stray-remove a b c d e p ea eb ec ed ee = sum-is (a + b + c + d + e) (ruleOf q ∷ wide q ∷ high q ∷ byte6 q ∷ byte7 q ∷ []) (omega arith) ∙ rw p
+  stray-remove p = rw p
 
   pub stray-pin : (n : ℕ) → isRemove q ≡ false → isPin q ≡ true → n ≡ ruleOf q → not (eqb n 0) ≡ stray q
   unfolding stray zeros

@@ -4,7 +4,8 @@ ghost use mathlib.Core.List.{[], _∷_};
 ghost use Prim.Native.Nat.{_<_};
 ghost use lib.ListN.{length};
 ghost use Rattle.rules.specs.Surface.{Standing, withRecord, fresh};
-ghost use Rattle.rules.specs.Requests.{operation, idLow, idHigh, codeOf, recordAfter};
+ghost use Rattle.rules.specs.Requests.{operation, idLow, idHigh, codeOf, answerOf, recordAfter};
+ghost use Rattle.rules.specs.declared.Step.the-variants.{Refused};
 ghost use Rattle.table.specs.Record.{Bytes};
 ghost use Rattle.requests.specs.Steps.{Changing, Served};
 use super::judge::judge;
@@ -21,19 +22,36 @@ fn code_of(d: Step) -> u8
 }
 
 // "code, operation and id as they came, then x, y, w, h"
-fn answer(q: &[u8], a: &mut [u8], code: u8, r: Rect)
+pub fn answer(q: &[u8], a: &mut [u8], code: u8, r: Rect)
     requires { ⌜ (length (now q) ≡ 8) × (length (now a) ≡ 8) ⌝ }
     requires { ⌜ Bytes r ⌝ }
     ensures { λ _. ⌜ now (a .exit) ≡ code ∷ operation (now (q .entry)) ∷ idLow (now (q .entry)) ∷ idHigh (now (q .entry)) ∷ r .x ∷ r .y ∷ r .w ∷ r .h ∷ [] ⌝ }
 {
-    a[0] = code;
-    a[1] = q[0];
-    a[2] = q[2];
-    a[3] = q[3];
-    a[4] = table::byte_of(r.x);
-    a[5] = table::byte_of(r.y);
-    a[6] = table::byte_of(r.w);
-    a[7] = table::byte_of(r.h);
+    table::put_eight(
+        a,
+        code,
+        q[0],
+        q[2],
+        q[3],
+        table::byte_of(r.x),
+        table::byte_of(r.y),
+        table::byte_of(r.w),
+        table::byte_of(r.h),
+    );
+}
+
+// The answer of what is refused: "A refusal has four zeros there."
+pub fn refuse(q: &[u8], a: &mut [u8], code: u8)
+    requires { ⌜ (length (now q) ≡ 8) × (length (now a) ≡ 8) ⌝ }
+    ensures { λ _. ⌜ now (a .exit) ≡ answerOf (now (q .entry)) (Refused code) ⌝ }
+{
+    let none = Rect {
+        x: 0,
+        y: 0,
+        w: 0,
+        h: 0,
+    };
+    answer(q, a, code, none);
 }
 
 // Operation 2 takes the module of slot i out. The others put the module r there, under the request's id: an exchange into the slot that judging
@@ -59,13 +77,7 @@ pub fn serve(w: usize, h: usize, s: &mut [i16], t: &mut [u8], q: &[u8], a: &mut 
 {
     let d = judge(w, h, s, t, q);
     let Step::Done(i, r) = d else {
-        let none = Rect {
-            x: 0,
-            y: 0,
-            w: 0,
-            h: 0,
-        };
-        answer(q, a, code_of(d), none);
+        refuse(q, a, code_of(d));
         return 0;
     };
     change(w, h, s, t, q, i, r);

@@ -8,6 +8,7 @@ ghost use Rattle.rules.specs.Surface.{slots};
 ghost use Rattle.rules.specs.Judging.{first};
 ghost use Rattle.rules.specs.Requests.{operation, known, byRule, makesNew, needsOld, hasSize, ruleOf, idAsked, idPlaced, wide, high, soundLines};
 ghost use Rattle.requests.specs.Steps.{stray as strayIn};
+use super::fields::any_not_zero;
 use super::fields::byte;
 use super::fields::id_asked;
 
@@ -44,13 +45,13 @@ fn has_size(q: &[u8]) -> bool
     q[0] == 3
 }
 
-// 12: a byte that must be zero is not. Bytes are all zero exactly when their sum is.
+// 12: a byte that must be zero is not: "remove: rule, w and h are zero"; "pin: .. rule is zero"; "Elsewhere bytes 6 and 7 are zero."
 fn stray(q: &[u8]) -> bool
     requires { ⌜ length (now q) ≡ 8 ⌝ }
     ensures { λ r. ⌜ r ≡ strayIn (now (q .entry)) ⌝ }
 {
     if q[0] == 2 {
-        return byte(q, 1) + byte(q, 4) + byte(q, 5) + byte(q, 6) + byte(q, 7) != 0;
+        return any_not_zero(q, 1, 4, 5, 6, 7);
     }
     if q[0] == 3 {
         return byte(q, 1) != 0;

@@ -2,8 +2,8 @@
 use mathlib.Core.Path.{_≡_, refl, sym, ap, ap₂, _∙_, subst, subst⁻¹}
 use mathlib.Core.Bool.{Bool, true, false, not, _||_, cond}
 use mathlib.Core.Logic.{⊎-elim}
-use mathlib.Core.List.{List, [], _∷_}
-use Prim.Native.Nat.{ℕ, _+_, _*_, _≤_}
+use mathlib.Core.List.{List}
+use Prim.Native.Nat.{ℕ, _*_, _≤_}
 use native.Mathlib.Omega.{arith}
 use borrow.Author.Tests.{eqb-true, eq-eqb, ne-eqb}
 use lib.Dec.{eqb}
@@ -13,23 +13,17 @@ use lib.Seq.{take-at, length-take-le}
 use Rattle.rules.specs.Judging.{first, NoneApplies}
 use Rattle.meaning.specs.Numbers.{above}
 use Rattle.rules.specs.Surface.{Standing, rect}
-use Rattle.rules.specs.Requests.{operation, ruleOf, idLow, idHigh, wide, high, byte6, byte7, zeros, answerOf}
+use Rattle.rules.specs.Requests.{operation, wide, high, answerOf}
 use Rattle.rules.specs.Calls.{badSize, badTable, sizeLines, clearLines, clearCode, clearedWeights, clearedTable}
 use Rattle.rules.specs.declared.Step.the-variants.{Refused, Done}
 use Rattle.rules.proofs.Tests.{or-which, or-neither, not-both}
 use Rattle.meaning.proofs.First.{none-applies}
 use Rattle.meaning.proofs.Codes.{area}
 use Rattle.demands.proofs.Stands.{cleared-stands}
-use Rattle.requests.specs.Steps.{stray}
-use Rattle.requests.proofs.Lines.{stray-remove}
 use Rattle.stream.specs.Records.{Kept, kept, onto, isClear, strayClear, clearRecordLines, clearRecordCode, requestStep, afterRequest, recordStep, nextRecord}
 use Rattle.stream.specs.Promise.{Ready, Holds, Served, apart}
 
 -- ---- codes 12 and 1
-
-pub stray-sum : (q : List ℕ) (a b c d e : ℕ) → a ≡ ruleOf q → b ≡ idLow q → c ≡ idHigh q → d ≡ byte6 q → e ≡ byte7 q → not (eqb (a + b + c + d + e) 0) ≡ strayClear q
-unfolding strayClear stray zeros
-stray-sum q a b c d e = stray-remove (2 ∷ ruleOf q ∷ 0 ∷ 0 ∷ idLow q ∷ idHigh q ∷ byte6 q ∷ byte7 q ∷ []) a b c d e refl
 
 -- where both lengths are right, no code but 1 is left
 size-only : (W H : ℕ) → first (sizeLines false W H 2048) ≡ cond (badSize W H) 1 0
@@ -127,7 +121,7 @@ code-zero W H t l e = ap (λ n. first (sizeLines false W H n)) l ∙ size-only W
 -- with the sizes as the code reads them
 pub clear-served : (q : List ℕ) (z : Kept) (W H : ℕ) (s : List ℤ) (t a : List ℕ) → W ≡ wide q → H ≡ high q → operation q ≡ 5 → clearRecordCode q ≡ 0 →
     length (z .room) ≡ 4096 → length (z .table) ≡ 2048 → s ≡ onto (W * H) (clearedWeights W H) (z .room) → t ≡ clearedTable (z .table) →
-    a ≡ answerOf q (Done 0 (rect 0 0 (wide q) (high q))) → Served q z W H s t a
+    a ≡ answerOf q (Done 0 (rect 0 0 W H)) → Served q z W H s t a
 clear-served q z W H s t a eW eH p e ls lt es et ea =
     let d = clear-done q z p e in
     let b = ap₂ badSize eW eH ∙ sizes-told q e in
@@ -135,7 +129,7 @@ clear-served q z W H s t a eW eH p e ls lt es et ea =
     let m : kept W H (onto (W * H) (clearedWeights W H) (z .room)) (clearedTable (z .table)) ≡ kept W H s t = λ j. kept W H (sym es j) (sym et j) in
     record {
       holds = held (nextRecord q z) W H s t (d .0 ∙ (λ j. kept (sym eW j) (sym eH j) (onto (sym eW j * sym eH j) (clearedWeights (sym eW j) (sym eH j)) (z .room)) (clearedTable (z .table))) ∙ m);
-      answer = ea ∙ sym (ap (answerOf q) (d .1));
+      answer = ea ∙ ap₂ (λ w h. answerOf q (Done 0 (rect 0 0 w h))) eW eH ∙ sym (ap (answerOf q) (d .1));
       ready = subst (λ (k : Kept). Ready W H (k .room) (k .table)) m r;
     }
 

@@ -1,14 +1,17 @@
 // A record that is served by itself: a clear, or any before there is a surface.
 ghost use mathlib.Core.Path.{_≡_};
 ghost use mathlib.Core.Bool.{true};
-ghost use mathlib.Core.List.{[], _∷_};
 ghost use Prim.Native.Nat.{ℕ, _+_, _*_, _≤_, _<_};
 ghost use lib.ListN.{length};
-ghost use Rattle.rules.specs.Requests.{operation, idLow, idHigh};
+ghost use Rattle.rules.specs.Requests.{operation};
 ghost use Rattle.rules.specs.Calls.{badSize, clearedWeights, clearedTable};
 ghost use Rattle.stream.specs.Records.{kept, onto, strayClear, clearRecordCode};
 ghost use Rattle.stream.specs.Promise.{Ready, Served, apart};
+use requests::fields::any_not_zero;
 use requests::fields::byte;
+use requests::serve::answer;
+use requests::serve::refuse;
+use rules::Rect;
 use surface::clear::clear_weights;
 use surface::clear::free_slots;
 use surface::sizes::size_code;
@@ -19,12 +22,12 @@ pub struct Size {
     pub rows: usize,
 }
 
-// 12: "the rest zero". Bytes are all zero exactly when their sum is.
+// 12: W and H are bytes 4 and 5, "the rest zero".
 fn stray(q: &[u8]) -> bool
     requires { ⌜ length (now q) ≡ 8 ⌝ }
     ensures { λ r. ⌜ r ≡ strayClear (now (q .entry)) ⌝ }
 {
-    byte(q, 1) + byte(q, 2) + byte(q, 3) + byte(q, 6) + byte(q, 7) != 0
+    any_not_zero(q, 1, 2, 3, 6, 7)
 }
 
 // 1: W or H not in 1..64. Both lengths are right, so that no other code of the library applies.
@@ -48,21 +51,6 @@ fn clear_code(q: &[u8]) -> u8
     0
 }
 
-// An answer with x = y = 0.
-fn answer(q: &[u8], a: &mut [u8], code: u8, w: u8, h: u8)
-    requires { ⌜ (length (now q) ≡ 8) × (length (now a) ≡ 8) ⌝ }
-    ensures { λ _. ⌜ now (a .exit) ≡ code ∷ operation (now (q .entry)) ∷ idLow (now (q .entry)) ∷ idHigh (now (q .entry)) ∷ 0 ∷ 0 ∷ w ∷ h ∷ [] ⌝ }
-{
-    a[0] = code;
-    a[1] = q[0];
-    a[2] = q[2];
-    a[3] = q[3];
-    a[4] = 0;
-    a[5] = 0;
-    a[6] = w;
-    a[7] = h;
-}
-
 // A surface of this size, at the start of the room; the rest of the room stays.
 fn clear_to(w: usize, h: usize, s: &mut [i16], t: &mut [u8])
     requires { ⌜ (w ≤ 64) × (h ≤ 64) × (length (now s) ≡ 4096) ⌝ }
@@ -74,7 +62,7 @@ fn clear_to(w: usize, h: usize, s: &mut [i16], t: &mut [u8])
     free_slots(t);
 }
 
-// Operation 5. Refused, it leads straight to its answer.
+// Operation 5. Refused, it leads straight to its answer; "accepted, the answer has x = y = 0 and w, h as W, H".
 fn serve_clear(w: usize, h: usize, s: &mut [i16], t: &mut [u8], q: &[u8], a: &mut [u8]) -> Size
     requires { ⌜ Ready w h (now s) (now t) ⌝ }
     requires { ⌜ (length (now q) ≡ 8) × (length (now a) ≡ 8) × (operation (now q) ≡ 5) ⌝ }
@@ -82,7 +70,7 @@ fn serve_clear(w: usize, h: usize, s: &mut [i16], t: &mut [u8], q: &[u8], a: &mu
 {
     let code = clear_code(q);
     if code != 0 {
-        answer(q, a, code, 0, 0);
+        refuse(q, a, code);
         return Size {
             columns: w,
             rows: h,
@@ -91,7 +79,13 @@ fn serve_clear(w: usize, h: usize, s: &mut [i16], t: &mut [u8], q: &[u8], a: &mu
     let columns = byte(q, 4);
     let rows = byte(q, 5);
     clear_to(columns, rows, s, t);
-    answer(q, a, 0, q[4], q[5]);
+    let size = Rect {
+        x: 0,
+        y: 0,
+        w: columns,
+        h: rows,
+    };
+    answer(q, a, 0, size);
     Size {
         columns: columns,
         rows: rows,
@@ -116,7 +110,7 @@ pub fn serve_apart(w: usize, h: usize, s: &mut [i16], t: &mut [u8], q: &[u8], a:
     ensures { λ r. ⌜ Served (now (q .entry)) (kept w h (now (s .entry)) (now (t .entry))) (r .columns) (r .rows) (now (s .exit)) (now (t .exit)) (now (a .exit)) ⌝ }
 {
     if q[0] != 5 {
-        answer(q, a, 8, 0, 0);
+        refuse(q, a, 8);
         return Size {
             columns: w,
             rows: h,

@@ -1,5 +1,6 @@
 // The table's records, read, looked for and written: a slot is eight bytes, the id low byte first, then x, y, w, h and two spare bytes.
 ghost use mathlib.Core.Path.{_≡_};
+ghost use mathlib.Core.List.{[], _∷_};
 ghost use Prim.Native.Nat.{_+_, _*_, _≤_, _<_};
 ghost use lib.ListN.{length};
 ghost use Rattle.rules.specs.Surface.{byte, slots, idOf, rectOf, freeSlot, recordOf, withRecord};
@@ -118,6 +119,31 @@ pub fn byte_of(n: usize) -> u8
     n as u8
 }
 
+// Eight bytes, one behind the other: a record of the table, of the list or an answer.
+pub fn put_eight(
+    a: &mut [u8],
+    byte0: u8,
+    byte1: u8,
+    byte2: u8,
+    byte3: u8,
+    byte4: u8,
+    byte5: u8,
+    byte6: u8,
+    byte7: u8,
+)
+    requires { ⌜ length (now a) ≡ 8 ⌝ }
+    ensures { λ _. ⌜ now (a .exit) ≡ byte0 ∷ byte1 ∷ byte2 ∷ byte3 ∷ byte4 ∷ byte5 ∷ byte6 ∷ byte7 ∷ [] ⌝ }
+{
+    a[0] = byte0;
+    a[1] = byte1;
+    a[2] = byte2;
+    a[3] = byte3;
+    a[4] = byte4;
+    a[5] = byte5;
+    a[6] = byte6;
+    a[7] = byte7;
+}
+
 // "Bytes 0 and 1 are the id, low byte first, then x, y, w, h, then two zero bytes."
 pub fn put_record(t: &mut [u8], i: usize, low: u8, high: u8, r: Rect)
     requires { ⌜ 8 * i + 8 ≤ length (now t) ⌝ }
@@ -125,12 +151,17 @@ pub fn put_record(t: &mut [u8], i: usize, low: u8, high: u8, r: Rect)
     ensures { λ _. ⌜ now (t .exit) ≡ withRecord (now (t .entry)) i (recordOf low high r) ⌝ }
 {
     let at = 8 * i;
-    t[at] = low;
-    t[at + 1] = high;
-    t[at + 2] = byte_of(r.x);
-    t[at + 3] = byte_of(r.y);
-    t[at + 4] = byte_of(r.w);
-    t[at + 5] = byte_of(r.h);
-    t[at + 6] = 0;
-    t[at + 7] = 0;
+    let end = at + 8;
+    let spare = 0;
+    put_eight(
+        &mut t[at..end],
+        low,
+        high,
+        byte_of(r.x),
+        byte_of(r.y),
+        byte_of(r.w),
+        byte_of(r.h),
+        spare,
+        spare,
+    );
 }

@@ -1,8 +1,8 @@
 -- `requests::serve::serve` meets its contract. Assumes nothing.
 use mathlib.Core.Path.{ap, _∙_}
-use mathlib.Core.List.{[], _∷_}
 use Rattle.rules.specs.Surface.{fresh}
-use Rattle.rules.specs.Requests.{operation, idLow, idHigh, codeOf}
+use Rattle.rules.specs.Requests.{codeOf, answerOf}
+use Rattle.rules.specs.declared.Step.the-variants.{Refused}
 use Rattle.requests.proofs.Accepted.{Accepted, on-bytes, judged-to, may-change, served-by}
 use borrow.Author.Needs.{needs}
 use Rattle.requests.proofs.serve.serve.Statement.{statement}
@@ -28,14 +28,14 @@ returns c = let v = c .before .before in
     let q = start k .args .q .now in
     let l = judged-to _ _ _ _ _ _ _ _ (k .judge .ensures) _ (m .enum-told .given .1) in
     served-by _ _ _ _ _ _ _ _ _ (l .0) (l .1) (l .2)
-    (v .answer .ensures ∙ ap (λ n. n ∷ operation q ∷ idLow q ∷ idHigh q ∷ 0 ∷ 0 ∷ 0 ∷ 0 ∷ []) (v .before .code-of .ensures ∙ ap codeOf (m .enum-told .given .1)))
+    (v .refuse .ensures ∙ ap (λ n. answerOf q (Refused n)) (v .before .code-of .ensures ∙ ap codeOf (m .enum-told .given .1)))
 
 change-requires : tie.Need-change-requires
 change-requires c κs = let d = c .before .before .before in
     (start (judged d) .pre .1 .0, may d .changing)
 
-answer-requires-2 : tie.Need-answer-requires-2
-answer-requires-2 c κs = let d = c .before .before .before .before .before .before .before .before in
+answer-requires : tie.Need-answer-requires
+answer-requires c κs = let d = c .before .before .before .before .before .before .before .before in
     let p = start (judged d) .pre in
     (p .1, on-bytes _ _ _ _ _ (p .0) (may d .changing .place))
 
@@ -47,7 +47,7 @@ returns-2 c = let v = c .before .before in
     let l = judged-to _ _ _ _ _ _ _ _ (k .judge .ensures) _ (d .d .given .1) in
     let e = g .change .ensures .0 ∙ may d .over in
     let a = start k .args in
-    served-by _ _ _ _ _ _ _ _ _ (l .0) (g .change .ensures .1 ∙ ap (fresh (a .w) (a .h)) e) e (v .answer2 .ensures)
+    served-by _ _ _ _ _ _ _ _ _ (l .0) (g .change .ensures .1 ∙ ap (fresh (a .w) (a .h)) e) e (v .answer .ensures)
 
 pub serve-spec : {M : Type 1} → statement M
 serve-spec =
@@ -63,7 +63,7 @@ serve-spec =
     (λ c. search needs)
     returns
     change-requires
-    answer-requires-2
+    answer-requires
     (λ c. search needs)
     (λ c. search needs)
     (λ c. search needs)

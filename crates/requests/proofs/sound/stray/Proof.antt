@@ -7,15 +7,14 @@ use Rattle.requests.proofs.sound.stray.Statement.{statement}
 use Rattle.requests.proofs.sound.stray.Tie as tie
 
 returns : tie.Need-returns
-returns c = let b = c .before .before .before .before in
-    stray-remove _ _ _ _ _ _ (eq-eqb _ _ (b .before .if1 .taken)) (b .byte .ensures .0) (c .before .before .before .byte2 .ensures .0) (c .before .before .byte3 .ensures .0) (c .before .byte4 .ensures .0) (c .byte5 .ensures .0)
+returns c = c .any-not-zero .ensures ∙ stray-remove _ (eq-eqb _ _ (c .before .if1 .taken))
 
 returns-2 : tie.Need-returns-2
-returns-2 c = stray-pin _ _ (ne-eqb _ _ (c .before .before .before .if1 .left)) (eq-eqb _ _ (c .before .if2 .taken)) (c .byte6 .ensures .0)
+returns-2 c = stray-pin _ _ (ne-eqb _ _ (c .before .before .before .if1 .left)) (eq-eqb _ _ (c .before .if2 .taken)) (c .byte .ensures .0)
 
 returns-3 : tie.Need-returns-3
 returns-3 c = let b = c .before .before .before in
-    stray-rule _ _ _ (ne-eqb _ _ (b .before .before .before .if1 .left)) (ne-eqb _ _ (b .before .if2 .left)) (sym (b .either .ensures) ∙ c .before .before .if3 .taken) (c .before .byte7 .ensures .0) (c .byte8 .ensures .0)
+    stray-rule _ _ _ (ne-eqb _ _ (b .before .before .before .if1 .left)) (ne-eqb _ _ (b .before .if2 .left)) (sym (b .either .ensures) ∙ c .before .before .if3 .taken) (c .before .byte2 .ensures .0) (c .byte3 .ensures .0)
 
 returns-4 : tie.Need-returns-4
 returns-4 c = stray-none _ (ne-eqb _ _ (c .before .before .before .before .if1 .left)) (ne-eqb _ _ (c .before .before .if2 .left)) (sym (c .before .either .ensures) ∙ c .if3 .left)
@@ -26,14 +25,6 @@ stray-spec =
     (tie.spec
     (λ c. search needs)
     (λ c κs. search needs)
-    (λ c κs. search needs)
-    (λ c. search needs)
-    (λ c κs. search needs)
-    (λ c. search needs)
-    (λ c κs. search needs)
-    (λ c. search needs)
-    (λ c κs. search needs)
-    (λ c. search needs)
     returns
     (λ c. search needs)
     (λ c κs. search needs)
