@@ -1,5 +1,6 @@
 #!/bin/sh
-# The cost of the library beside plain C, in counted instructions, as a table.
+# The cost of the library beside plain C, in counted instructions, as a table: counted by callgrind, and on a machine that is not x86-64 by the
+# emulator (count.c). Compare tables of one way only: a program linked statically has another memset.
 # run.sh ARCHIVE DIRECTORY                  the library, and where to build
 # run.sh ARCHIVE DIRECTORY against TABLE    the table, and then the rows that are higher than in TABLE, a table printed before, by more than 1 %
 # run.sh ARCHIVE DIRECTORY times            times in place of instructions
@@ -10,6 +11,7 @@ here=$(dirname "$0")
 . "$here/../tests/need.sh"
 need_x86 >&2
 need awk gawk >&2
+[ -z "$start" ] && link= || link=-static # an emulated program is linked to fixed addresses, those that nm gives
 
 archive=${1:?the archive}
 build=${2:?the directory}
@@ -30,7 +32,7 @@ for call in $calls; do
 done
 $cc $flags -c -o "$build/plain.o" "$here/plain.c"
 $cc $flags $again -c -o "$build/setup.o" "$here/plain.c"
-$cc $flags -o "$build/bench" "$here/bench.c" "$host/damage.c" "$host/laid.c" "$host/lending.c" "$host/numbers.c" \
+$cc $flags $link -o "$build/bench" "$here/bench.c" "$host/damage.c" "$host/laid.c" "$host/lending.c" "$host/numbers.c" \
     "$host/surfaces.c" "$here/../tests/brute/brute.c" "$here/../tests/table.c" "$build/plain.o" "$build/setup.o" "$archive"
 
 $start "$build/bench" compare 1 1500 >&2
@@ -38,19 +40,26 @@ case $what in
 compare) exit 0 ;;
 times) exec $start "$build/bench" times ;;
 esac
-[ -z "$start" ] || { echo "bench/run.sh: callgrind counts programs of its machine's processor only, and this is no x86-64 machine" >&2; exit 1; }
-need valgrind valgrind >&2
 
-set -f
-valgrind --tool=callgrind $counted --callgrind-out-file="$build/calls.out" "$build/bench" count \
-    2>"$build/count.err" || { cat "$build/count.err" >&2; exit 1; }
-i=1
-set +f
-while [ -f "$build/calls.out.$i" ]; do
-    sed -n 's/^totals: //p;s/^summary: //p' "$build/calls.out.$i" | head -n 1
-    i=$((i + 1))
-done >"$build/counts"
-"$build/bench" table "$build/counts" >"$build/table"
+if [ -z "$start" ]; then
+    need valgrind valgrind >&2
+    set -f
+    valgrind --tool=callgrind $counted --callgrind-out-file="$build/calls.out" "$build/bench" count \
+        2>"$build/count.err" || { cat "$build/count.err" >&2; exit 1; }
+    i=1
+    set +f
+    while [ -f "$build/calls.out.$i" ]; do
+        sed -n 's/^totals: //p;s/^summary: //p' "$build/calls.out.$i" | head -n 1
+        i=$((i + 1))
+    done >"$build/counts"
+else
+    need gcc gcc libc6-dev >&2
+    gcc -std=gnu11 -O2 -Wall -Wextra -Werror -fPIC -shared -fvisibility=hidden -o "$build/libcount.so" "$here/count.c"
+    at=$($nm "$build/bench" | awk '$2 == "T" && $3 ~ /^(plain|freelist)_/ { printf ",at=%s:%s", $3, $1 }')
+    $start -plugin "$build/libcount.so,out=$build/calls.out$at" "$build/bench" count 2>"$build/count.err" || { cat "$build/count.err" >&2; exit 1; }
+    cut -d' ' -f1 "$build/calls.out" >"$build/counts"
+fi
+$start "$build/bench" table "$build/counts" >"$build/table"
 cat "$build/table"
 [ "$what" = against ] || exit 0
 
