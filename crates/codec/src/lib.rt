@@ -57,7 +57,7 @@ pub fn same(b: &[u8], s: &[i16]) -> bool
 }
 
 // The two bytes of a weight.
-fn put_weight(b: &mut [u8], k: usize, v: i16)
+fn put_bytes(b: &mut [u8], k: usize, v: i16)
     requires { ⌜ 2 * k + 1 < length (now b) ⌝ }
     ensures { λ _. ⌜ now (b .exit) ≡ set (set (now (b .entry)) (2 * k) (bits16 v % 256)) (2 * k + 1) (bits16 v / 256) ⌝ }
 {
@@ -73,7 +73,7 @@ pub fn encode(s: &[i16], b: &mut [u8])
 {
     let mut k = 0;
     while k < s.len() {
-        put_weight(b, k, s[k]);
+        put_bytes(b, k, s[k]);
         k += 1;
     }
 }

@@ -73,14 +73,14 @@ fn record_line(r: &[u8], of_list: bool)
 }
 
 // "It prints one line a record", and one "for each list entry": the first n records of eight bytes.
-fn record_lines(b: &[u8], n: usize, of_list: bool)
-    requires { ⌜ (8 * n ≤ length (now b)) × (n ≤ 4096) ⌝ }
+fn record_lines(records: &[u8], n: usize, of_list: bool)
+    requires { ⌜ (8 * n ≤ length (now records)) × (n ≤ 4096) ⌝ }
 {
     let mut k = 0;
     while k < n {
         let at = 8 * k;
         let end = at + 8;
-        record_line(&b[at..end], of_list);
+        record_line(&records[at..end], of_list);
         k += 1;
     }
 }
@@ -100,12 +100,12 @@ fn last_lines(corners: u64, entries: u64, left: u64) {
 }
 
 // Reads behind the first `held` bytes. The result is how many there are then: as many as before where the input has ended.
-fn read_on(b: &mut [u8], held: usize) -> usize
-    requires { ⌜ held ≤ length (now b) ⌝ }
-    ensures { λ r. ⌜ (held ≤ r) × (r ≤ length (now (b .exit))) × (take held (now (b .exit)) ≡ take held (now (b .entry))) ⌝ }
+fn read_on(q: &mut [u8], held: usize) -> usize
+    requires { ⌜ held ≤ length (now q) ⌝ }
+    ensures { λ r. ⌜ (held ≤ r) × (r ≤ length (now (q .exit))) × (take held (now (q .exit)) ≡ take held (now (q .entry))) ⌝ }
 {
-    let got = libc::read(STDIN_FILENO, &mut b[held..]);
-    held + io::count(got, &b[held..])
+    let got = libc::read(STDIN_FILENO, &mut q[held..]);
+    held + io::count(got, &q[held..])
 }
 
 // The whole records among the first n bytes are served, and their answers printed.
@@ -114,16 +114,16 @@ fn serve_piece(
     h: usize,
     s: &mut [i16],
     t: &mut [u8],
-    b: &[u8],
+    q: &[u8],
     n: usize,
     a: &mut [u8],
 ) -> Size
     requires { ⌜ Ready w h (now s) (now t) ⌝ }
-    requires { ⌜ (n ≤ length (now b)) × (length (now b) ≡ 4096) × (length (now a) ≡ 4096) ⌝ }
-    ensures { λ r. ⌜ ServedAll (take (8 * (n / 8)) (now (b .entry))) (kept w h (now (s .entry)) (now (t .entry))) (r .columns) (r .rows) (now (s .exit)) (now (t .exit)) (take (8 * (n / 8)) (now (a .exit))) ⌝ }
+    requires { ⌜ (n ≤ length (now q)) × (length (now q) ≡ 4096) × (length (now a) ≡ 4096) ⌝ }
+    ensures { λ r. ⌜ ServedAll (take (8 * (n / 8)) (now (q .entry))) (kept w h (now (s .entry)) (now (t .entry))) (r .columns) (r .rows) (now (s .exit)) (now (t .exit)) (take (8 * (n / 8)) (now (a .exit))) ⌝ }
 {
     let m = whole(n);
-    let z = serve(w, h, s, t, &b[..m], &mut a[..m]);
+    let z = serve(w, h, s, t, &q[..m], &mut a[..m]);
     record_lines(a, m / 8, false);
     z
 }
@@ -140,8 +140,8 @@ fn finish(w: usize, h: usize, s: &[i16], t: &[u8], room: &mut [u8], left: &[u8])
 }
 
 // From the first state on. Nothing says that the input ends, so the turns count down from a number that no run uses up.
-fn run(s: &mut [i16], t: &mut [u8], b: &mut [u8], a: &mut [u8], room: &mut [u8])
-    requires { ⌜ (now s ≡ firstKept .room) × (now t ≡ firstKept .table) × (length (now b) ≡ 4096) × (length (now a) ≡ 4096) × (length (now room) ≡ 32768) ⌝ }
+fn run(s: &mut [i16], t: &mut [u8], q: &mut [u8], a: &mut [u8], room: &mut [u8])
+    requires { ⌜ (now s ≡ firstKept .room) × (now t ≡ firstKept .table) × (length (now q) ≡ 4096) × (length (now a) ≡ 4096) × (length (now room) ≡ 32768) ⌝ }
 {
     let start = first_size();
     let mut w = start.columns;
@@ -149,17 +149,17 @@ fn run(s: &mut [i16], t: &mut [u8], b: &mut [u8], a: &mut [u8], room: &mut [u8])
     let mut held = 0;
     let mut turns = u64::MAX;
     while turns > 0 {
-        let n = read_on(b, held);
+        let n = read_on(q, held);
         if n == held {
             break;
         }
-        let z = serve_piece(w, h, s, t, b, n, a);
+        let z = serve_piece(w, h, s, t, q, n, a);
         w = z.columns;
         h = z.rows;
-        held = carry(b, n);
+        held = carry(q, n);
         turns -= 1;
     }
-    finish(w, h, s, t, room, &b[..held]);
+    finish(w, h, s, t, room, &q[..held]);
 }
 
 fn list_room() -> [u8; 32768]
@@ -171,8 +171,8 @@ fn list_room() -> [u8; 32768]
 fn main() {
     let mut s = first_room();
     let mut t = first_table();
-    let mut b = io::buffer();
+    let mut q = io::buffer();
     let mut a = io::buffer();
     let mut room = list_room();
-    run(&mut s, &mut t, &mut b, &mut a, &mut room);
+    run(&mut s, &mut t, &mut q, &mut a, &mut room);
 }

@@ -9,11 +9,11 @@ use super::examine::examine;
 use surface::examine::Examined;
 use surface::sizes::size_code;
 
-fn checked_on(w: usize, h: usize, b: &[u8], t: &[u8], a: &mut [i16]) -> u64
-    requires { ⌜ Right w h (lent (now b) (now t)) × (now a ≡ replicate (w * h) (pos 1)) ⌝ }
+fn checked_on(w: usize, h: usize, b: &[u8], t: &[u8], s: &mut [i16]) -> u64
+    requires { ⌜ Right w h (lent (now b) (now t)) × (now s ≡ replicate (w * h) (pos 1)) ⌝ }
     ensures { λ r. ⌜ r ≡ hostCheck w h (lent (now (b .entry)) (now (t .entry))) ⌝ }
 {
-    let Examined::Stands(used) = examine(w, h, b, t, a) else {
+    let Examined::Stands(used) = examine(w, h, b, t, s) else {
         return 6;
     };
     65536 * (used as u64)
@@ -28,6 +28,6 @@ pub fn check(w: usize, h: usize, weights: &[u8], table: &[u8]) -> u64
         return code;
     }
     let n = w * h;
-    let mut a = [1i16; 4096];
-    checked_on(w, h, weights, table, &mut a[..n])
+    let mut s = [1i16; 4096];
+    checked_on(w, h, weights, table, &mut s[..n])
 }

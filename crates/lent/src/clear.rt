@@ -8,12 +8,12 @@ use surface::clear::clear_weights;
 use surface::clear::free_slots;
 use surface::sizes::size_code;
 
-fn cleared_on(w: usize, h: usize, a: &mut [i16], b: &mut [u8])
-    requires { ⌜ (w ≤ 64) × (h ≤ 64) × (length (now a) ≡ w * h) × (length (now b) ≡ 2 * (w * h)) ⌝ }
+fn cleared_on(w: usize, h: usize, s: &mut [i16], b: &mut [u8])
+    requires { ⌜ (w ≤ 64) × (h ≤ 64) × (length (now s) ≡ w * h) × (length (now b) ≡ 2 * (w * h)) ⌝ }
     ensures { λ _. ⌜ now (b .exit) ≡ bytesOf (clearedWeights w h) ⌝ }
 {
-    clear_weights(w, h, a);
-    codec::encode(a, b);
+    clear_weights(w, h, s);
+    codec::encode(s, b);
 }
 
 fn clear_bytes(w: usize, h: usize, b: &mut [u8])
@@ -21,8 +21,8 @@ fn clear_bytes(w: usize, h: usize, b: &mut [u8])
     ensures { λ _. ⌜ now (b .exit) ≡ bytesOf (clearedWeights w h) ⌝ }
 {
     let n = w * h;
-    let mut a = [1i16; 4096];
-    cleared_on(w, h, &mut a[..n], b);
+    let mut s = [1i16; 4096];
+    cleared_on(w, h, &mut s[..n], b);
 }
 
 // clear: frees all slots and gives cell (x, y) weight y + 1. Codes 1, 2, 3.

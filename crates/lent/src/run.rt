@@ -17,17 +17,17 @@ fn ran_on(
     t: &mut [u8],
     q: &[u8],
     answers: &mut [u8],
-    a: &mut [i16],
+    s: &mut [i16],
 ) -> u64
-    requires { ⌜ RightBlock w h (lent (now b) (now t)) (now q) (now answers) × (now a ≡ replicate (w * h) (pos 1)) ⌝ }
+    requires { ⌜ RightBlock w h (lent (now b) (now t)) (now q) (now answers) × (now s ≡ replicate (w * h) (pos 1)) ⌝ }
     ensures { λ r. ⌜ HostRanBy w h (lent (now (b .entry)) (now (t .entry))) (now (q .entry)) (now (answers .entry)) r (lent (now (b .exit)) (now (t .exit))) (now (answers .exit)) ⌝ }
 {
-    let Examined::Stands(_) = examine(w, h, b, t, a) else {
+    let Examined::Stands(_) = examine(w, h, b, t, s) else {
         return 6;
     };
-    let n = run_on(w, h, a, t, q, answers);
+    let n = run_on(w, h, s, t, q, answers);
     if 0 < n {
-        codec::encode(a, b);
+        codec::encode(s, b);
     }
     65536 * (n as u64)
 }
@@ -56,6 +56,6 @@ pub fn run(
         return code;
     }
     let n = w * h;
-    let mut a = [1i16; 4096];
-    ran_on(w, h, weights, table, requests, answers, &mut a[..n])
+    let mut s = [1i16; 4096];
+    ran_on(w, h, weights, table, requests, answers, &mut s[..n])
 }

@@ -21,13 +21,13 @@ abbrev μ-loop : tie.MeasureT-loop
 loop-holds : tie.Need-loop-holds Inv-loop μ-loop
 loop-holds c = (omega arith, upto-none (c .before .pre ∙ sym (length-bytesOf (c .before .args .s .now))))
 
-put-weight-requires : tie.Need-put-weight-requires Inv-loop μ-loop
-put-weight-requires c κs = omega (arith, c .before .before .before .loop .inv .1 .long, length-bytesOf (c .before .before .before .before .before .args .s .now))
+put-bytes-requires : tie.Need-put-bytes-requires Inv-loop μ-loop
+put-bytes-requires c κs = omega (arith, c .before .before .before .loop .inv .1 .long, length-bytesOf (c .before .before .before .before .before .args .s .now))
 
 loop-again : tie.Need-loop-again Inv-loop μ-loop
 loop-again c = let l = c .before .before .before .before .before .before .loop in let a = c .before .before .before .before .before .before .before .before .args in
     let z = getD (a .s .now) (l .k) (pos 0) in
-    (omega arith, stored-more (a .s .now) (l .b) _ (l .k) _ (l .inv .1) (omega arith) (c .before .before .put-weight .ensures) (toZ-ofZ w16 z (record { sfits = c .before .before .before .put-weight-arg2 .given })))
+    (omega arith, stored-more (a .s .now) (l .b) _ (l .k) _ (l .inv .1) (omega arith) (c .before .before .put-bytes .ensures) (toZ-ofZ w16 z (record { sfits = c .before .before .before .put-bytes-arg2 .given })))
 
 same-length : tie.Need-same-length Inv-loop μ-loop
 same-length c = c .before .loop .inv .1 .long ∙ length-bytesOf (c .before .before .before .args .s .now) ∙ sym (c .before .before .before .pre)
@@ -45,7 +45,7 @@ encode-spec =
     loop-holds
     (λ c. omega arith)
     (λ c. omega arith)
-    put-weight-requires
+    put-bytes-requires
     (λ c. omega arith)
     (λ c. omega arith)
     loop-again

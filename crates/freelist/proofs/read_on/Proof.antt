@@ -7,7 +7,7 @@ use Rattle.freelist.proofs.read_on.Statement.{statement}
 use Rattle.freelist.proofs.read_on.Tie as tie
 
 returns : tie.Need-returns
-returns c = let s = c .before .before .before .before .before .before .before .before in (search needs, search needs, take-put (s .args .held) (length (s .args .b .now) - s .args .held) (s .args .b .now) (c .before .before .before .before .before .read .last .1 .0) (s .pre))
+returns c = let s = c .before .before .before .before .before .before .before .before in (search needs, search needs, take-put (s .args .held) (length (s .args .q .now) - s .args .held) (s .args .q .now) (c .before .before .before .before .before .read .last .1 .0) (s .pre))
 
 pub read-on-spec : {M : Type 1} → statement M
 read-on-spec =

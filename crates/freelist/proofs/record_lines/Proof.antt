@@ -12,7 +12,7 @@ abbrev μ-loop : tie.MeasureT-loop
 μ-loop b n of-list k₀ k = n - k
 
 record-line-requires : tie.Need-record-line-requires Inv-loop μ-loop
-record-line-requires c κs = let l = c .before .before .loop in part-long (8 * l .k) 8 (c .before .before .before .before .args .b .now) (omega arith)
+record-line-requires c κs = let l = c .before .before .loop in part-long (8 * l .k) 8 (c .before .before .before .before .args .records .now) (omega arith)
 
 pub record-lines-spec : {M : Type 1} → statement M
 record-lines-spec =

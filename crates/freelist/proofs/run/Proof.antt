@@ -49,17 +49,17 @@ loop-again c = let l = c .before .before .before .before .before .before .before
       y .kept .0 ∙ r .kept .0 ∙ i .1,
       v .kept .1 .1 .1 .1 .1 .1 .0 ∙ i .2,
       omega (arith, y .ensures .0),
-      so-far-more (l .held) (r .result) (y .result) (l .b) _ _ (i .4) (r .ensures .0) (r .ensures .1) (r .ensures .2) (v .ensures .holds) (y .ensures .0) (y .ensures .1),
+      so-far-more (l .held) (r .result) (y .result) (l .q) _ _ (i .4) (r .ensures .0) (r .ensures .1) (r .ensures .2) (v .ensures .holds) (y .ensures .0) (y .ensures .1),
     )
 
 -- whichever way the loop was left, the buffer is as long as it was, and the bytes held are where they were
-left-long : (c : tie.Left-loop Inv-loop μ-loop) → length (c .loop-test .b) ≡ 4096
+left-long : (c : tie.Left-loop Inv-loop μ-loop) → length (c .loop-test .q) ≡ 4096
 left-long c = let e = c .before .loop .inv .1 in ⊎-elim (λ w. ap length (w .1) ∙ e) (λ w. ap length (w .6) ∙ w .2 .kept .0 ∙ e) (c .loop-test .came)
 
-left-held : (c : tie.Left-loop Inv-loop μ-loop) → take (c .before .loop .held) (c .loop-test .b) ≡ take (c .before .loop .held) (c .before .loop .b)
+left-held : (c : tie.Left-loop Inv-loop μ-loop) → take (c .before .loop .held) (c .loop-test .q) ≡ take (c .before .loop .held) (c .before .loop .q)
 left-held c = let n = c .before .loop .held in ⊎-elim (λ w. ap (take n) (w .1)) (λ w. ap (take n) (w .6) ∙ w .2 .ensures .2) (c .loop-test .came)
 
-left-fits : (c : tie.Left-loop Inv-loop μ-loop) → c .before .loop .held ≤ length (c .loop-test .b)
+left-fits : (c : tie.Left-loop Inv-loop μ-loop) → c .before .loop .held ≤ length (c .loop-test .q)
 left-fits c = omega (arith, left-long c, c .before .loop .inv .3)
 
 slice-reshare-prefix-finish : tie.Need-slice-reshare-prefix-finish Inv-loop μ-loop

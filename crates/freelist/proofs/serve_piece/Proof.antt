@@ -16,7 +16,7 @@ serve-requires : tie.Need-serve-requires
 serve-requires c κs = let s = c .before .before .before .before .before .before .before .before in
     let p = s .pre .1 in
     let e = c .before .before .before .before .whole .ensures .0 in
-    let x = whole-part _ _ (s .args .b .now) e (omega (arith, p .0, p .1)) (p .1) in
+    let x = whole-part _ _ (s .args .q .now) e (omega (arith, p .0, p .1)) (p .1) in
     let y = whole-part _ _ (s .args .a .now) e (omega (arith, p .0, p .1)) (p .2) in
     (s .pre .0, (x .records-whole, x .few, sym (y .long) ∙ x .long))
 

@@ -18,17 +18,17 @@ right c = record { right = sym (c .before .size-code .ensures) ∙ c .if1 .left 
 mul-n : tie.Need-mul-n
 mul-n c = omega (arith, lent-area _ _ _ _ (right c))
 
-array-borrow-prefix-a : tie.Need-array-borrow-prefix-a
-array-borrow-prefix-a c = lent-area _ _ _ _ (right c)
+array-borrow-prefix-s : tie.Need-array-borrow-prefix-s
+array-borrow-prefix-s c = lent-area _ _ _ _ (right c)
 
 slice-aggregate-checked-on : tie.Need-slice-aggregate-checked-on
-slice-aggregate-checked-on c = part _ _ 4096 (array-borrow-prefix-a (c .before)) refl
+slice-aggregate-checked-on c = part _ _ 4096 (array-borrow-prefix-s (c .before)) refl
 
 checked-on-requires : tie.Need-checked-on-requires
-checked-on-requires c κs = (right (c .before), ones-part _ 4096 (array-borrow-prefix-a (c .before)))
+checked-on-requires c κs = (right (c .before), ones-part _ 4096 (array-borrow-prefix-s (c .before)))
 
 returns-2 : tie.Need-returns-2
 returns-2 c = c .before .checked-on .ensures
 
 pub check-spec : {M : Type 1} → statement M
-check-spec = tie.close (tie.spec (λ c κs. search needs) returns mul-n array-borrow-prefix-a slice-aggregate-checked-on checked-on-requires returns-2)
+check-spec = tie.close (tie.spec (λ c κs. search needs) returns mul-n array-borrow-prefix-s slice-aggregate-checked-on checked-on-requires returns-2)

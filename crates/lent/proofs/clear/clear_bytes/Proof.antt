@@ -4,8 +4,8 @@ use Rattle.surface.proofs.ExamineLaws.{part}
 use Rattle.lent.proofs.clear.clear_bytes.Statement.{statement}
 use Rattle.lent.proofs.clear.clear_bytes.Tie as tie
 
-array-borrow-prefix-a : tie.Need-array-borrow-prefix-a
-array-borrow-prefix-a c = c .before .pre .2
+array-borrow-prefix-s : tie.Need-array-borrow-prefix-s
+array-borrow-prefix-s c = c .before .pre .2
 
 slice-aggregate-cleared-on : tie.Need-slice-aggregate-cleared-on
 slice-aggregate-cleared-on c = part _ _ 4096 (c .before .before .pre .2) refl
@@ -17,4 +17,4 @@ returns : tie.Need-returns
 returns c = c .before .before .before .cleared-on .ensures
 
 pub clear-bytes-spec : {M : Type 1} → statement M
-clear-bytes-spec = tie.close (tie.spec (λ c. search needs) array-borrow-prefix-a slice-aggregate-cleared-on cleared-on-requires (λ c. search needs) returns)
+clear-bytes-spec = tie.close (tie.spec (λ c. search needs) array-borrow-prefix-s slice-aggregate-cleared-on cleared-on-requires (λ c. search needs) returns)

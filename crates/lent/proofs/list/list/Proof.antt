@@ -18,17 +18,17 @@ right c = record { right = sym (c .before .size-code .ensures) ∙ c .if1 .left 
 mul-n : tie.Need-mul-n
 mul-n c = omega (arith, lent-area _ _ _ _ (right c))
 
-array-borrow-prefix-a : tie.Need-array-borrow-prefix-a
-array-borrow-prefix-a c = lent-area _ _ _ _ (right (c .before))
+array-borrow-prefix-s : tie.Need-array-borrow-prefix-s
+array-borrow-prefix-s c = lent-area _ _ _ _ (right (c .before))
 
 slice-aggregate-listed-on : tie.Need-slice-aggregate-listed-on
-slice-aggregate-listed-on c = part _ _ 4096 (array-borrow-prefix-a (c .before)) refl
+slice-aggregate-listed-on c = part _ _ 4096 (array-borrow-prefix-s (c .before)) refl
 
 listed-on-requires : tie.Need-listed-on-requires
-listed-on-requires c κs = (right (c .before .before), ones-part _ 4096 (array-borrow-prefix-a (c .before)))
+listed-on-requires c κs = (right (c .before .before), ones-part _ 4096 (array-borrow-prefix-s (c .before)))
 
 returns-2 : tie.Need-returns-2
 returns-2 c = c .before .before .before .listed-on .ensures
 
 pub list-spec : {M : Type 1} → statement M
-list-spec = tie.close (tie.spec (λ c κs. search needs) returns mul-n array-borrow-prefix-a slice-aggregate-listed-on listed-on-requires (λ c. search needs) returns-2)
+list-spec = tie.close (tie.spec (λ c κs. search needs) returns mul-n array-borrow-prefix-s slice-aggregate-listed-on listed-on-requires (λ c. search needs) returns-2)

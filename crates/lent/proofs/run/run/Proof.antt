@@ -24,8 +24,8 @@ few c = let a = c .before .before .before .before .before .before .args in
 mul-n : tie.Need-mul-n
 mul-n c = omega (arith, few c)
 
-array-borrow-prefix-a : tie.Need-array-borrow-prefix-a
-array-borrow-prefix-a c = few (c .before .before .before)
+array-borrow-prefix-s : tie.Need-array-borrow-prefix-s
+array-borrow-prefix-s c = few (c .before .before .before)
 
 slice-aggregate-ran-on : tie.Need-slice-aggregate-ran-on
 slice-aggregate-ran-on c = part _ _ 4096 (few (c .before .before .before .before)) refl
@@ -38,4 +38,4 @@ returns-2 c = c .before .before .before .before .before .before .before .ran-on 
 
 pub run-spec : {M : Type 1} → statement M
 run-spec =
-    tie.close (tie.spec (λ c κs. search needs) returns mul-n array-borrow-prefix-a slice-aggregate-ran-on ran-on-requires (λ c. search needs) (λ c. search needs) (λ c. search needs) returns-2)
+    tie.close (tie.spec (λ c κs. search needs) returns mul-n array-borrow-prefix-s slice-aggregate-ran-on ran-on-requires (λ c. search needs) (λ c. search needs) (λ c. search needs) returns-2)

@@ -14,29 +14,29 @@ abbrev μ-loop : tie.MeasureT-loop
 μ-loop b₀ n at left i₀ b i = left - i
 
 -- the byte that is moved next stands in the slice
-inside : (c : tie.In-loop Inv-loop μ-loop) → let l = c .before in l .before .whole .result + l .loop .i < length (l .before .before .before .args .b .now)
+inside : (c : tie.In-loop Inv-loop μ-loop) → let l = c .before in l .before .whole .result + l .loop .i < length (l .before .before .before .args .q .now)
 inside c =
     let l = c .before in
     let s = l .before .before .before in
     omega (arith, c .loop-test .taken, l .before .whole .ensures .0, s .pre)
 
-long : (c : tie.At-loop Inv-loop μ-loop) → length (c .loop .b) ≡ length (c .before .before .before .args .b .now)
+long : (c : tie.At-loop Inv-loop μ-loop) → length (c .loop .q) ≡ length (c .before .before .before .args .q .now)
 long c =
     let s = c .before .before .before in
-    let h : c .before .whole .result + c .loop .i ≤ length (s .args .b .now) = omega (arith, c .loop .inv .0, c .before .whole .ensures .0, s .pre) in
-    moved-long _ (c .loop .b) _ (c .loop .i) (c .loop .inv .1) h
+    let h : c .before .whole .result + c .loop .i ≤ length (s .args .q .now) = omega (arith, c .loop .inv .0, c .before .whole .ensures .0, s .pre) in
+    moved-long _ (c .loop .q) _ (c .loop .i) (c .loop .inv .1) h
 
 loop-holds : tie.Need-loop-holds Inv-loop μ-loop
 loop-holds c = (omega arith, moved-none _ (c .whole .result))
 
-add-b : tie.Need-add-b Inv-loop μ-loop
-add-b c = omega (arith, inside c)
+add-q : tie.Need-add-q Inv-loop μ-loop
+add-q c = omega (arith, inside c)
 
-slice-read-b : tie.Need-slice-read-b Inv-loop μ-loop
-slice-read-b c = omega (arith, inside (c .before), long (c .before .before))
+slice-read-q : tie.Need-slice-read-q Inv-loop μ-loop
+slice-read-q c = omega (arith, inside (c .before), long (c .before .before))
 
-slice-write-b : tie.Need-slice-write-b Inv-loop μ-loop
-slice-write-b c = omega (arith, inside (c .before), long (c .before .before))
+slice-write-q : tie.Need-slice-write-q Inv-loop μ-loop
+slice-write-q c = omega (arith, inside (c .before), long (c .before .before))
 
 add-i : tie.Need-add-i Inv-loop μ-loop
 add-i c = omega (arith, inside (c .before))
@@ -45,7 +45,7 @@ loop-less : tie.Need-loop-less Inv-loop μ-loop
 loop-less c = omega (arith, c .before .loop-test .taken)
 
 loop-again : tie.Need-loop-again Inv-loop μ-loop
-loop-again c = let l = c .before .before .loop in (omega (arith, c .before .loop-test .taken), moved-more _ (l .b) _ (l .i) (l .inv .1) (inside (c .before)))
+loop-again c = let l = c .before .before .loop in (omega (arith, c .before .loop-test .taken), moved-more _ (l .q) _ (l .i) (l .inv .1) (inside (c .before)))
 
 same-length : tie.Need-same-length Inv-loop μ-loop
 same-length c = long (c .before)
@@ -55,7 +55,7 @@ returns c = let l = c .before .loop in
     let s = c .before .before .before .before in
     let e = c .before .before .whole .ensures .0 in
     let i : l .i ≡ s .args .n % 8 = omega (arith, c .loop-test .left, l .inv .0) in
-    (refl, moved-all _ (l .b) _ (s .args .n) (l .i) i e (l .inv .1))
+    (refl, moved-all _ (l .q) _ (s .args .n) (l .i) i e (l .inv .1))
 
 pub carry-spec : {M : Type 1} → statement M
 carry-spec =
@@ -65,9 +65,9 @@ carry-spec =
     μ-loop
     (λ c κs. tt)
     loop-holds
-    add-b
-    slice-read-b
-    slice-write-b
+    add-q
+    slice-read-q
+    slice-write-q
     add-i
     loop-less
     loop-again

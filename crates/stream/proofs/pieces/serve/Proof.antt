@@ -19,13 +19,13 @@ abbrev start : tie.At-loop Inv-loop μ-loop → tie.Start Inv-loop μ-loop
 start c = c .before .before .before .before
 
 -- the answers are as long as the piece
-long : (c : tie.At-loop Inv-loop μ-loop) → length (c .loop .a) ≡ 8 * records (start c .args .b .now)
+long : (c : tie.At-loop Inv-loop μ-loop) → length (c .loop .a) ≡ 8 * records (start c .args .q .now)
 long c =
     let p = start c .pre .1 in
     served-long _ _ _ _ _ _ _ _ _ _ (c .loop .inv .0) (p .2 ∙ p .0) (c .loop .inv .1)
 
 -- there is a record more, and its answer's place
-room : (c : tie.In-loop Inv-loop μ-loop) → let l = c .before in (8 * l .loop .k + 8 ≤ length (start l .args .b .now)) × (8 * l .loop .k + 8 ≤ length (l .loop .a)) × (l .loop .k ≤ 512)
+room : (c : tie.In-loop Inv-loop μ-loop) → let l = c .before in (8 * l .loop .k + 8 ≤ length (start l .args .q .now)) × (8 * l .loop .k + 8 ≤ length (l .loop .a)) × (l .loop .k ≤ 512)
 room c =
     let l = c .before in
     let p = start l .pre .1 in
@@ -33,13 +33,13 @@ room c =
 
 -- how many are served together, and what they take
 turn : (c : tie.After-together Inv-loop μ-loop) → let l = c .before .before .before in let e = 8 * l .loop .k + 8 * c .together .result in
-    (1 ≤ c .together .result) × (e ≤ length (start l .args .b .now)) × (e ≤ length (l .loop .a)) × (e ≤ 4096)
+    (1 ≤ c .together .result) × (e ≤ length (start l .args .q .now)) × (e ≤ length (l .loop .a)) × (e ≤ 4096)
 turn c =
     let i = c .before .before in
     let l = i .before in
     let p = start l .pre .1 in
     let e = c .together .ensures in
-    let f : 8 * l .loop .k + 8 * c .together .result ≤ length (start l .args .b .now) = from-fits (start l .args .b .now) (l .loop .k) (c .together .result) (omega (arith, room i .0)) (e .1) in
+    let f : 8 * l .loop .k + 8 * c .together .result ≤ length (start l .args .q .now) = from-fits (start l .args .q .now) (l .loop .k) (c .together .result) (omega (arith, room i .0)) (e .1) in
     (e .0, f, omega (arith, f, long l, p .0), omega (arith, f, p .0, p .1))
 
 abbrev entered : tie.After-serve-together-arg4 Inv-loop μ-loop → tie.After-together Inv-loop μ-loop
@@ -64,7 +64,7 @@ part-together-end : tie.Need-part-together-end Inv-loop μ-loop
 part-together-end c = omega (arith, room c .0)
 
 together-requires : tie.Need-together-requires Inv-loop μ-loop
-together-requires c κs = let i = c .before in let l = i .before in let p = start l .pre .1 in from-whole (start l .args .b .now) (l .loop .k) (records (start l .args .b .now)) (p .0) (i .loop-test .taken) (p .1)
+together-requires c κs = let i = c .before in let l = i .before in let p = start l .pre .1 in from-whole (start l .args .q .now) (l .loop .k) (records (start l .args .q .now)) (p .0) (i .loop-test .taken) (p .1)
 
 mul-end : tie.Need-mul-end Inv-loop μ-loop
 mul-end c = omega (arith, turn c .3)
@@ -89,7 +89,7 @@ serve-together-requires c κs =
     let g = entered c in
     let l = g .before .before .before in
     let u = turn g in
-    (l .loop .inv .1 .ready, lent-part (start l .args .b .now) (l .loop .a) (l .loop .k) (g .together .result) _ (u .0) (omega (arith, u .3)) (u .1) (u .2) (g .together .ensures .2))
+    (l .loop .inv .1 .ready, lent-part (start l .args .q .now) (l .loop .a) (l .loop .k) (g .together .result) _ (u .0) (omega (arith, u .3)) (u .1) (u .2) (g .together .ensures .2))
 
 add-k : tie.Need-add-k Inv-loop μ-loop
 add-k c = omega (arith, turn (entered (served c .before)) .3)
@@ -121,8 +121,8 @@ returns c =
     let l = c .before .loop in
     let s = start (c .before) in
     let p = s .pre .1 in
-    let e : l .k ≡ records (s .args .b .now) = omega (arith, c .loop-test .left, l .inv .0) in
-    all-served (s .args .b .now) _ _ (l .k) _ _ _ _ _ e (p .2 ∙ p .0) (l .inv .1)
+    let e : l .k ≡ records (s .args .q .now) = omega (arith, c .loop-test .left, l .inv .0) in
+    all-served (s .args .q .now) _ _ (l .k) _ _ _ _ _ e (p .2 ∙ p .0) (l .inv .1)
 
 pub serve-spec : {M : Type 1} → statement M
 serve-spec =

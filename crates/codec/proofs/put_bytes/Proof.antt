@@ -3,16 +3,16 @@ use mir.Syntax.{w16}
 use mir.ValLaws.{toZ-ofZ}
 use Rattle.rules.specs.Host.{bits16}
 use borrow.Author.Needs.{needs}
-use Rattle.codec.proofs.put_weight.Statement.{statement}
-use Rattle.codec.proofs.put_weight.Tie as tie
+use Rattle.codec.proofs.put_bytes.Statement.{statement}
+use Rattle.codec.proofs.put_bytes.Tie as tie
 
 returns : tie.Need-returns
 returns c =
     let e : c .to-bits .result ≡ bits16 (c .before .before .args .v) = c .to-bits .ensures ∙ ap bits16 (toZ-ofZ w16 (c .before .before .args .v) (c .before .before .fits .v)) in
     rw e
 
-pub put-weight-spec : {M : Type 1} → statement M
-put-weight-spec =
+pub put-bytes-spec : {M : Type 1} → statement M
+put-bytes-spec =
     tie.close
     (tie.spec
     (λ c κs. search needs)
