@@ -7,7 +7,7 @@ ghost use lib.ListN.{length};
 ghost use Rattle.rules.specs.Surface.{Standing, occupied};
 ghost use Rattle.rules.specs.Requests.{fits, cost as costOf, rulePlace};
 ghost use Rattle.listing.specs.Row.{entry, entryAt, rows};
-ghost use Rattle.listing.specs.Listed.{entryRect, rectsIn, listed, Scans, Drawn};
+ghost use Rattle.listing.specs.Listed.{entryRect, rectsIn, Drawn};
 ghost use Rattle.choice.specs.Best.{Entered, better, bestOf, unbeaten, placeIn, Chosen};
 ghost use Rattle.choice.specs.Room.{noneFits};
 ghost use Rattle.choice.specs.declared.Best.the-variants.{Nothing};

@@ -26,7 +26,7 @@ use Rattle.meaning.proofs.Rectangles.{empty-is}
 use Rattle.meaning.proofs.First.{first-is, none-is, none-first, first-over, first-stop}
 use Rattle.meaning.proofs.Changes.{take-occupied}
 use Rattle.demands.specs.Sound.{Sound, SlotForIt}
-use Rattle.meaning.proofs.Steps.{code-is, done-refused, done-rect, Came, came, empty-parts, Asking, asking, sizes, ground-for, taking}
+use Rattle.meaning.proofs.Steps.{code-is, done-refused, done-rect, came, empty-parts, Asking, asking, sizes, ground-for, taking}
 use Rattle.meaning.proofs.Steps.Came.{refused, placed, removed, put, exchanged}
 
 -- ---- a refusal changes nothing

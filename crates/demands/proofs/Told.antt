@@ -10,7 +10,7 @@ use lib.IntN.{ℤ}
 use Rattle.rules.specs.Tests.{least, keep}
 use Rattle.rules.specs.Surface.{rect, slots, idOf, rectOf, recordOf, freeRecord, freeSlot, withRecord}
 use Rattle.rules.specs.Empties.{Ordered}
-use Rattle.rules.specs.Requests.{operation, idLow, idHigh, idAsked, isPlace, isRemove, isPin, isExchange, hasId, idPlaced, lowestFree, stepOf, answerOf, tableAfter}
+use Rattle.rules.specs.Requests.{operation, idLow, idHigh, idAsked, isPlace, isPin, hasId, idPlaced, lowestFree, stepOf, answerOf, tableAfter}
 use Rattle.rules.specs.Blocks.{State}
 use Rattle.rules.specs.declared.Rect.{Rect}
 use Rattle.rules.specs.declared.Step.{Step}

@@ -1,7 +1,7 @@
 // freelist: "It reads request records from standard input and keeps a table of 256 slots." What the records mean is in the crate `stream`; here they are
 // read, in pieces of any size, and the answers and the list printed.
 ghost use mathlib.Core.Path.{_≡_};
-ghost use Prim.Native.Nat.{ℕ, _+_, _*_, _/_, _≤_, _<_};
+ghost use Prim.Native.Nat.{_+_, _*_, _/_, _≤_, _<_};
 ghost use lib.ListN.{length, take};
 ghost use Rattle.stream.specs.Records.{kept, firstKept};
 ghost use Rattle.stream.specs.Promise.{Ready, ServedAll};

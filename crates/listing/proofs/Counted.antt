@@ -17,7 +17,7 @@ use Rattle.rules.proofs.Tests.{count-le}
 use Rattle.meaning.proofs.Bound.{entries-few}
 use Rattle.meaning.proofs.Corners.{corners-few}
 use Rattle.listing.specs.Row.{turns}
-use Rattle.listing.specs.Listed.{heightOf, entriesIn, rectsIn, listed, listedResult, listedRoom}
+use Rattle.listing.specs.Listed.{heightOf, entriesIn, listed, listedResult, listedRoom}
 use Rattle.listing.proofs.ListLaws.{entries-listed, unscanned-rects, rects-length}
 use Rattle.listing.proofs.Corners.{turns-corners, no-corner}
 use Rattle.listing.proofs.Written.{listed-none, listed-grows}

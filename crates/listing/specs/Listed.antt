@@ -1,12 +1,12 @@
 -- What a row shows of a surface, and the list of a surface as its rows' entries one behind the other. Assumes nothing.
 use mathlib.Core.Path.{_≡_}
-use mathlib.Core.Bool.{Bool, true, false, cond, _&&_}
+use mathlib.Core.Bool.{Bool, true, cond, _&&_}
 use mathlib.Core.List.{List, map, _++_}
 use Prim.Native.Nat.{ℕ, suc, _+_, _-_, _≤_, _<_}
 use lib.Dec.{ltb, eqb}
 use lib.ListN.{length, getD, take, drop}
-use Rattle.rules.specs.Tests.{chain, count}
-use Rattle.rules.specs.Surface.{rect, rectOf, usedSlot, occupied, upwards}
+use Rattle.rules.specs.Tests.{chain}
+use Rattle.rules.specs.Surface.{rect, rectOf, usedSlot, upwards}
 use Rattle.rules.specs.Empties.{entryRecords, scanned, corners}
 use Rattle.rules.specs.Calls.{entriesOf, shortRoom, resultOf, roomAfter}
 use Rattle.rules.specs.declared.Rect.{Rect}

@@ -6,7 +6,7 @@ use Prim.Native.Nat.{ℕ}
 use native.Mathlib.Omega.{arith}
 use borrow.Author.Tests.{ne-eqb, eqb-true}
 use lib.IntN.{ℤ}
-use Rattle.rules.specs.Surface.{Standing, rectOf, recordOf, freeRecord, withRecord, fresh}
+use Rattle.rules.specs.Surface.{Standing, recordOf, freeRecord, withRecord, fresh}
 use Rattle.rules.specs.Requests.{operation, idLow, idHigh, idAsked, isExchange, slotOf, ground, stepOf, answerOf, recordAfter, tableAfter, weightsAfter, acceptedOne, isRemove}
 use Rattle.rules.specs.declared.Rect.{Rect}
 use Rattle.rules.specs.declared.Step.{Step}

@@ -1,6 +1,6 @@
 // "the requests then run in turn, each on the surface that the one before left."
 ghost use mathlib.Core.Path.{_≡_};
-ghost use Prim.Native.Nat.{_+_, _*_, _≤_, _<_};
+ghost use Prim.Native.Nat.{_+_, _*_, _≤_};
 ghost use lib.ListN.{length};
 ghost use Rattle.rules.specs.Surface.{Standing};
 ghost use Rattle.rules.specs.Blocks.{started, requests, after};

@@ -1,7 +1,6 @@
 // One request: judged, the change made, and answered in the eight bytes lent for it.
 ghost use mathlib.Core.Path.{_≡_};
 ghost use mathlib.Core.List.{[], _∷_};
-ghost use Prim.Native.Nat.{_<_};
 ghost use lib.ListN.{length};
 ghost use Rattle.rules.specs.Surface.{Standing, withRecord, fresh};
 ghost use Rattle.rules.specs.Requests.{operation, idLow, idHigh, codeOf, answerOf, recordAfter};

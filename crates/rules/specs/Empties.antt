@@ -1,14 +1,14 @@
 -- EMPTY RECTANGLES: maximal ones, the list of them, scanned rows and corners. Up to the list they know of the surface only
 -- which cells are occupied: occ x y.
 use mathlib.Core.Path.{_≡_}
-use mathlib.Core.Bool.{Bool, true, false, not, _&&_, _||_}
+use mathlib.Core.Bool.{Bool, false, not, _&&_, _||_}
 use mathlib.Core.List.{List, [], _∷_, _++_, List·Memᴰ}
 use mathlib.Core.Logic.{_⊎_}
-use Prim.Native.Nat.{ℕ, zero, suc, _+_, _-_, _*_, _/_, _%_, _≤_, _<_}
+use Prim.Native.Nat.{ℕ, suc, _+_, _-_, _*_, _/_, _%_, _≤_, _<_}
 use lib.Dec.{leb, eqb}
 use lib.Signed.{ltZ}
 use Rattle.rules.specs.Tests.{every, any, total, count, chain, keep, all}
-use Rattle.rules.specs.Surface.{rect, byte, slots, usedSlot, rectOf, occupied, weight}
+use Rattle.rules.specs.Surface.{rect, slots, usedSlot, rectOf, occupied, weight}
 use Rattle.rules.specs.declared.Rect.{Rect}
 
 -- ---- "A rectangle is empty when it lies on the surface and all its cells are empty."

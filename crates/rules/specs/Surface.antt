@@ -1,6 +1,6 @@
 -- THE SURFACE: its cells, its table, its weights, and when it stands. W columns and H rows; column 0 is at the left, row 0 at the top.
 use mathlib.Core.Path.{_≡_}
-use mathlib.Core.Bool.{Bool, true, false, not, cond, _&&_, _||_}
+use mathlib.Core.Bool.{Bool, true, not, cond, _&&_, _||_}
 use mathlib.Core.List.{List, [], _∷_}
 use Prim.Native.Nat.{ℕ, zero, suc, _+_, _-_, _*_, _/_, _%_, _≤_}
 use lib.Dec.{leb, ltb, eqb}

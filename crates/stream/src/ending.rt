@@ -1,6 +1,6 @@
 // At the end of the input: the list.
 ghost use mathlib.Core.Path.{_≡_};
-ghost use Prim.Native.Nat.{ℕ, _+_, _*_, _≤_, _<_};
+ghost use Prim.Native.Nat.{ℕ, _*_, _<_};
 ghost use lib.ListN.{length};
 ghost use Rattle.rules.specs.Calls.{resultOf};
 ghost use Rattle.stream.specs.Records.{kept};

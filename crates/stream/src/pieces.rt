@@ -1,6 +1,6 @@
 // A piece of the input: its whole records in turn, and the bytes that are left over.
 ghost use mathlib.Core.Path.{_≡_};
-ghost use Prim.Native.Nat.{ℕ, _+_, _*_, _/_, _%_, _≤_, _<_};
+ghost use Prim.Native.Nat.{_+_, _*_, _/_, _%_, _≤_, _<_};
 ghost use lib.ListN.{length};
 ghost use Rattle.stream.specs.Records.{kept, records, carried};
 ghost use Rattle.stream.specs.Promise.{Ready, ServedAll, Requests, Together};

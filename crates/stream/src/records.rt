@@ -1,7 +1,7 @@
 // A record that is served by itself: a clear, or any before there is a surface.
 ghost use mathlib.Core.Path.{_≡_};
 ghost use mathlib.Core.Bool.{true};
-ghost use Prim.Native.Nat.{ℕ, _+_, _*_, _≤_, _<_};
+ghost use Prim.Native.Nat.{_*_, _≤_, _<_};
 ghost use lib.ListN.{length};
 ghost use Rattle.rules.specs.Requests.{operation};
 ghost use Rattle.rules.specs.Calls.{badSize, clearedWeights, clearedTable};
