@@ -16,8 +16,9 @@ failures=0
 drawn=0
 refused=0
 
-# A sanitizer's finding must not be taken for a refusal.
+# A sanitizer's finding must not be taken for a refusal. On an Arm machine the search for leaks at each exit takes seconds, and is left out.
 export ASAN_OPTIONS=exitcode=99 UBSAN_OPTIONS=exitcode=99
+[ -z "$start" ] || ASAN_OPTIONS=$ASAN_OPTIONS:detect_leaks=0
 
 fail() {
     echo "tests/picture/run.sh: failed: $1"
