@@ -13,7 +13,8 @@ need() {
 need_emulator() {
     start=
     [ "$(uname -m)" = x86_64 ] && return 0
-    need qemu-x86_64 qemu-user libc6-amd64-cross
+    need qemu-x86_64 qemu-user
+    need /usr/x86_64-linux-gnu/lib64/ld-linux-x86-64.so.2 libc6-amd64-cross
     start="qemu-x86_64 -L /usr/x86_64-linux-gnu"
 }
 

@@ -5,6 +5,9 @@ set -eu
 form=${1:?usage: picture.sh text|svg INPUT [PROGRAM]}
 input=${2:?usage: picture.sh text|svg INPUT [PROGRAM]}
 here=$(dirname "$0")
+. "$here/../../tests/need.sh"
+need gcc gcc libc6-dev >&2
+need_emulator >&2
 program=${3:-$here/../../target/bin/freelist}
 build=$here/../../build/picture
 
@@ -14,5 +17,5 @@ case $input in
 *.hex) sh "$here/bytes.sh" <"$input" >"$build/input" ;;
 *) cp "$input" "$build/input" ;;
 esac
-"$program" <"$build/input" >"$build/output"
+$start "$program" <"$build/input" >"$build/output"
 "$build/picture" "$form" "$build/input" "$build/output"

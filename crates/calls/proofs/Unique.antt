@@ -4,14 +4,14 @@ use mathlib.Core.List.{List}
 use Prim.Native.Nat.{ℕ}
 use Rattle.rules.specs.Host.{LentSurface, hostCheck, HostClearedBy, HostRanBy, HostListedBy}
 
-pub clear-one : (W H : ℕ) (l : LentSurface) (r r′ : ℕ) (m m′ : LentSurface) → HostClearedBy W H l r m → HostClearedBy W H l r′ m′ → (r ≡ r′) × (m ≡ m′)
-clear-one W H l r r′ m m′ p q = (p .result ∙ sym (q .result), p .left ∙ sym (q .left))
+pub clear-one : (W H : ℕ) (l : LentSurface) (r₁ r₂ : ℕ) (l₁ l₂ : LentSurface) → HostClearedBy W H l r₁ l₁ → HostClearedBy W H l r₂ l₂ → (r₁ ≡ r₂) × (l₁ ≡ l₂)
+clear-one W H l r₁ r₂ l₁ l₂ x y = (x .result ∙ sym (y .result), x .left ∙ sym (y .left))
 
-pub check-one : (W H : ℕ) (l : LentSurface) (r r′ : ℕ) → r ≡ hostCheck W H l → r′ ≡ hostCheck W H l → r ≡ r′
-check-one W H l r r′ p q = p ∙ sym q
+pub check-one : (W H : ℕ) (l : LentSurface) (r₁ r₂ : ℕ) → r₁ ≡ hostCheck W H l → r₂ ≡ hostCheck W H l → r₁ ≡ r₂
+check-one W H l r₁ r₂ x y = x ∙ sym y
 
-pub run-one : (W H : ℕ) (l : LentSurface) (q a : List ℕ) (r r′ : ℕ) (m m′ : LentSurface) (b b′ : List ℕ) → HostRanBy W H l q a r m b → HostRanBy W H l q a r′ m′ b′ → (r ≡ r′) × (m ≡ m′) × (b ≡ b′)
-run-one W H l q a r r′ m m′ b b′ x y = (x .result ∙ sym (y .result), x .left ∙ sym (y .left), x .answers ∙ sym (y .answers))
+pub run-one : (W H : ℕ) (l : LentSurface) (q a : List ℕ) (r₁ r₂ : ℕ) (l₁ l₂ : LentSurface) (a₁ a₂ : List ℕ) → HostRanBy W H l q a r₁ l₁ a₁ → HostRanBy W H l q a r₂ l₂ a₂ → (r₁ ≡ r₂) × (l₁ ≡ l₂) × (a₁ ≡ a₂)
+run-one W H l q a r₁ r₂ l₁ l₂ a₁ a₂ x y = (x .result ∙ sym (y .result), x .left ∙ sym (y .left), x .answers ∙ sym (y .answers))
 
-pub list-one : (W H : ℕ) (l : LentSurface) (room : List ℕ) (r r′ : ℕ) (m m′ : List ℕ) → HostListedBy W H l room r m → HostListedBy W H l room r′ m′ → (r ≡ r′) × (m ≡ m′)
-list-one W H l room r r′ m m′ p q = (p .result ∙ sym (q .result), p .written ∙ sym (q .written))
+pub list-one : (W H : ℕ) (l : LentSurface) (room : List ℕ) (r₁ r₂ : ℕ) (room₁ room₂ : List ℕ) → HostListedBy W H l room r₁ room₁ → HostListedBy W H l room r₂ room₂ → (r₁ ≡ r₂) × (room₁ ≡ room₂)
+list-one W H l room r₁ r₂ room₁ room₂ x y = (x .result ∙ sym (y .result), x .written ∙ sym (y .written))

@@ -33,17 +33,17 @@ pub data MayChange (t q : List ℕ) (r : Rect) (c y : ℕ) : Type 0 where
   ofModule : Reached r (bare t q) c y → MayChange t q r c y
   ofOld : needsOld q ≡ true → Reached (rectOf t (oldSlot t q)) (bare t q) c y → MayChange t q r c y
 
--- from state a to state z nothing else has changed, "and one table record"
-pub record Framed (W H : ℕ) (q : List ℕ) (i : ℕ) (r : Rect) (a z : State) : Type 0 where
-  pub slot : i < slots (a .table)
-  pub long : length (z .table) ≡ length (a .table)
-  pub bytes : (k : ℕ) → (k < 8 * i) ⊎ (8 * i + 8 ≤ k) → getD (z .table) k 0 ≡ getD (a .table) k 0
-  pub weights : (c y : ℕ) → c < W → y < H → (cell W (z .weights) c y ≡ cell W (a .weights) c y → ⊥) → MayChange (a .table) q r c y
+-- from state z to state z′ nothing else has changed, "and one table record"
+pub record Framed (W H : ℕ) (q : List ℕ) (i : ℕ) (r : Rect) (z z′ : State) : Type 0 where
+  pub slot : i < slots (z .table)
+  pub long : length (z′ .table) ≡ length (z .table)
+  pub bytes : (k : ℕ) → (k < 8 * i) ⊎ (8 * i + 8 ≤ k) → getD (z′ .table) k 0 ≡ getD (z .table) k 0
+  pub weights : (c y : ℕ) → c < W → y < H → (cell W (z′ .weights) c y ≡ cell W (z .weights) c y → ⊥) → MayChange (z .table) q r c y
 
 -- the same, of some slot
-pub record OneFramed (W H : ℕ) (q : List ℕ) (r : Rect) (a z : State) : Type 0 where
+pub record OneFramed (W H : ℕ) (q : List ℕ) (r : Rect) (z z′ : State) : Type 0 where
   pub slot : ℕ
-  pub framed : Framed W H q slot r a z
+  pub framed : Framed W H q slot r z z′
 
 -- the two bytes of cell (x, y), at 2·(y·W + x), are the same
 abbrev pub SameBytes : ℕ → List ℕ → List ℕ → ℕ → ℕ → Type 0

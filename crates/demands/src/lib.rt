@@ -1,1 +1,1 @@
-// The three demands: theorems about the definitions of `rules`. No code.
+// The three demands: what their words mean, and theorems from the exported contracts (`rules/specs/Host`). No code.

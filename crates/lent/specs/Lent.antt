@@ -21,7 +21,7 @@ pub record Right (W H : ℕ) (l : LentSurface) : Type 0 where
 pub record RightBlock (W H : ℕ) (l : LentSurface) (q a : List ℕ) : Type 0 where
   pub right : first (sizeLines (badBytes W H l) W H (length (l .table)) ++ blockLines (length q) (length a)) ≡ 0
 
--- the surface is examined; where it stands, a holds its weights
-pub record LentExamined (W H : ℕ) (l : LentSurface) (r : Examined) (a : List ℤ) : Type 0 where
+-- the surface is examined; where it stands, s holds its weights
+pub record LentExamined (W H : ℕ) (l : LentSurface) (r : Examined) (s : List ℤ) : Type 0 where
   pub answer : Tells (stands W H (weightsIn l) (l .table)) (l .table) r
-  pub weights : stands W H (weightsIn l) (l .table) ≡ true → a ≡ weightsIn l
+  pub weights : stands W H (weightsIn l) (l .table) ≡ true → s ≡ weightsIn l

@@ -1,2 +1,2 @@
--- What the calls on lent bytes promise.
+-- What is known inside a call on lent bytes. What the calls promise is in `rules/specs/Host`.
 pub mod Lent

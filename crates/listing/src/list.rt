@@ -61,7 +61,7 @@ fn write_row(
 
 // The whole list as records from the start of the room, the rows one behind the other. "later bytes stay." A row that is not scanned has no entry and
 // no corner.
-pub fn write_list(
+fn write_list(
     w: usize,
     h: usize,
     weights: &[i16],

@@ -128,9 +128,9 @@ pub check-numbers : (bad : Bool) (W H : ℕ) (s : List ℤ) (t : List ℕ) → N
 unfolding checkLines above hasCode differ rising
 check-numbers bad W H s t = (refl, refl, refl)
 
-pub run-numbers : (bad : Bool) (W H : ℕ) (s : List ℤ) (t b a : List ℕ) → Numbered (runLines bad W H s t b a)
+pub run-numbers : (bad : Bool) (W H : ℕ) (s : List ℤ) (t q a : List ℕ) → Numbered (runLines bad W H s t q a)
 unfolding runLines above hasCode differ rising
-run-numbers bad W H s t b a = (refl, refl, refl)
+run-numbers bad W H s t q a = (refl, refl, refl)
 
 pub list-numbers : (bad : Bool) (W H : ℕ) (s : List ℤ) (t room : List ℕ) → Numbered (listLines bad W H s t room)
 unfolding listLines above hasCode differ rising

@@ -64,24 +64,24 @@ pub record Served (W H : ℕ) (q : List ℕ) (s : List ℤ) (t : List ℕ) (s′
 
 -- the eight bytes at an offset of a block
 abbrev pub bytesAt : List ℕ → ℕ → List ℕ
-bytesAt b at = take 8 (drop at b)
+bytesAt q at = take 8 (drop at q)
 
 -- the request there may be served: the surface stands, and the answers have the same place
-pub record Turn (W H : ℕ) (b : List ℕ) (at : ℕ) (s : List ℤ) (t a : List ℕ) : Type 0 where
+pub record Turn (W H : ℕ) (q : List ℕ) (at : ℕ) (s : List ℤ) (t a : List ℕ) : Type 0 where
   pub stands : Standing W H s t
-  pub inside : at + 8 ≤ length b
-  pub long : length a ≡ length b
+  pub inside : at + 8 ≤ length q
+  pub long : length a ≡ length q
 
 -- it is served, and answered in that place: the other answers are as they were
-pub record ServedAt (W H : ℕ) (b : List ℕ) (at : ℕ) (s : List ℤ) (t a : List ℕ) (s′ : List ℤ) (t′ a′ : List ℕ) (n : ℕ) : Type 0 where
-  pub weights : s′ ≡ weightsAfter W H (bytesAt b at) (stepOf W H t (bytesAt b at)) t s
-  pub table : t′ ≡ tableAfter (bytesAt b at) (stepOf W H t (bytesAt b at)) t
-  pub answers : a′ ≡ take at a ++ (answerOf (bytesAt b at) (stepOf W H t (bytesAt b at)) ++ drop (at + 8) a)
-  pub accepted : n ≡ acceptedOne (stepOf W H t (bytesAt b at))
+pub record ServedAt (W H : ℕ) (q : List ℕ) (at : ℕ) (s : List ℤ) (t a : List ℕ) (s′ : List ℤ) (t′ a′ : List ℕ) (n : ℕ) : Type 0 where
+  pub weights : s′ ≡ weightsAfter W H (bytesAt q at) (stepOf W H t (bytesAt q at)) t s
+  pub table : t′ ≡ tableAfter (bytesAt q at) (stepOf W H t (bytesAt q at)) t
+  pub answers : a′ ≡ take at a ++ (answerOf (bytesAt q at) (stepOf W H t (bytesAt q at)) ++ drop (at + 8) a)
+  pub accepted : n ≡ acceptedOne (stepOf W H t (bytesAt q at))
 
 -- what a run has left is what a state says
-pub record Ran (b : State) (s′ : List ℤ) (t′ a : List ℕ) (n : ℕ) : Type 0 where
-  pub weights : s′ ≡ b .weights
-  pub table : t′ ≡ b .table
-  pub answers : a ≡ b .answers
-  pub accepted : n ≡ b .accepted
+pub record Ran (z : State) (s′ : List ℤ) (t′ a : List ℕ) (n : ℕ) : Type 0 where
+  pub weights : s′ ≡ z .weights
+  pub table : t′ ≡ z .table
+  pub answers : a ≡ z .answers
+  pub accepted : n ≡ z .accepted

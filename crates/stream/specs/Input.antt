@@ -17,19 +17,19 @@ pub record Reading : Type 0 where
 abbrev pub begun : Kept → Reading
 begun z = record { state = z; answers = []; held = [] }
 
--- the whole records of b, and the bytes after the last of them
+-- the whole records of q, and the bytes after the last of them
 abbrev pub whole : List ℕ → List ℕ
-whole b = take (8 * records b) b
+whole q = take (8 * records q) q
 
 abbrev pub rest : List ℕ → List ℕ
-rest b = drop (8 * records b) b
+rest q = drop (8 * records q) q
 
--- the whole records of b are served, and the rest of b is held
+-- the whole records of q are served, and the rest of q is held
 abbrev pub served : List ℕ → Reading → Reading
-served b y = record {
-  state = afterRecords (whole b) (y .state) (records (whole b));
-  answers = y .answers ++ answersTo (whole b) (y .state) (records (whole b));
-  held = rest b;
+served q y = record {
+  state = afterRecords (whole q) (y .state) (records (whole q));
+  answers = y .answers ++ answersTo (whole q) (y .state) (records (whole q));
+  held = rest q;
 }
 
 -- one read after the other
@@ -37,10 +37,10 @@ unfoldable pub afterReads : List (List ℕ) → Reading → Reading
 afterReads [] y = y
 afterReads (c ∷ cs) y = afterReads cs (served (y .held ++ c) y)
 
--- the bytes of the reads, one behind the other, behind b
+-- the bytes of the reads, one behind the other, behind q
 unfoldable pub inTurn : List ℕ → List (List ℕ) → List ℕ
-inTurn b [] = b
-inTurn b (c ∷ cs) = inTurn (b ++ c) cs
+inTurn q [] = q
+inTurn q (c ∷ cs) = inTurn (q ++ c) cs
 
 -- from the first state on, some reads have led to sizes and slices, and the bytes l are held
 pub record SoFar (w h : ℕ) (s : List ℤ) (t l : List ℕ) : Type 0 where

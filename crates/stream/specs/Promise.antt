@@ -30,28 +30,28 @@ pub record Served (q : List ℕ) (z : Kept) (w h : ℕ) (s : List ℤ) (t a : Li
   pub answer : a ≡ answerTo q z
   pub ready : Ready w h s t
 
--- the records b are served
-pub record ServedAll (b : List ℕ) (z : Kept) (w h : ℕ) (s : List ℤ) (t a : List ℕ) : Type 0 where
-  pub holds : Holds (afterRecords b z (records b)) w h s t
-  pub answers : a ≡ answersTo b z (records b)
+-- the records q are served
+pub record ServedAll (q : List ℕ) (z : Kept) (w h : ℕ) (s : List ℤ) (t a : List ℕ) : Type 0 where
+  pub holds : Holds (afterRecords q z (records q)) w h s t
+  pub answers : a ≡ answersTo q z (records q)
   pub ready : Ready w h s t
 
 -- a record is an accepted clear
 abbrev pub AcceptedClear : List ℕ → Type 0
 AcceptedClear q = (operation q ≡ 5) × (clearRecordCode q ≡ 0)
 
--- the first n records of b are requests of the library
+-- the first n records of q are requests of the library
 abbrev pub Requests : List ℕ → ℕ → Type 0
-Requests b n = (j : ℕ) → j < n → operation (request b j) ≡ 5 → ⊥
+Requests q n = (j : ℕ) → j < n → operation (request q j) ≡ 5 → ⊥
 
 -- q is served by itself: a clear, and any record before there is a surface
 unfoldable pub apart : ℕ → List ℕ → Bool
 apart w q = eqb w 0 || isClear q
 
--- the first m records of b are served together: one by itself, or requests on the surface that there is
-pub record Together (w : ℕ) (b : List ℕ) (m : ℕ) : Type 0 where
-  pub alone : apart w b ≡ true → m ≡ 1
-  pub requests : apart w b ≡ false → Requests b m
+-- the first m records of q are served together: one by itself, or requests on the surface that there is
+pub record Together (w : ℕ) (q : List ℕ) (m : ℕ) : Type 0 where
+  pub alone : apart w q ≡ true → m ≡ 1
+  pub requests : apart w q ≡ false → Requests q m
 
 -- the list is written, and counted; there is room for it
 pub record ListedBy (z : Kept) (room : List ℕ) (n c : ℕ) (room′ : List ℕ) : Type 0 where

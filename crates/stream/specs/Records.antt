@@ -1,5 +1,5 @@
 -- THE RECORD STREAM: "It reads request records from standard input and keeps a table of 256 slots. It also knows operation 5, clear". q is a record's
--- eight bytes; z is what the program keeps.
+-- eight bytes, or records one behind the other; z is what the program keeps.
 use mathlib.Core.Bool.{Bool, not, cond}
 use mathlib.Core.List.{List, [], _∷_, _++_}
 use Prim.Native.Nat.{ℕ, zero, suc, _*_, _/_, _%_}
@@ -88,26 +88,26 @@ answerTo q z = answerOf q (recordStep q z)
 unfoldable pub nextRecord : List ℕ → Kept → Kept
 nextRecord q z = cond (isClear q) (afterClear (clearStep q (clearRecordCode q)) z) (cond (noSurface z) z (afterRequest q (requestStep q z) z))
 
--- ---- the records of b in turn: what is kept after the first k, and their answers one behind the other
+-- ---- the records of q in turn: what is kept after the first k, and their answers one behind the other
 
 unfoldable pub afterRecords : List ℕ → Kept → ℕ → Kept
-afterRecords b z zero = z
-afterRecords b z (suc k) = nextRecord (request b k) (afterRecords b z k)
+afterRecords q z zero = z
+afterRecords q z (suc k) = nextRecord (request q k) (afterRecords q z k)
 
 unfoldable pub answersTo : List ℕ → Kept → ℕ → List ℕ
-answersTo b z zero = []
-answersTo b z (suc k) = answersTo b z k ++ answerTo (request b k) (afterRecords b z k)
+answersTo q z zero = []
+answersTo q z (suc k) = answersTo q z k ++ answerTo (request q k) (afterRecords q z k)
 
 -- how many whole records there are; "where bytes remain after the last whole record, .. N being how many"
 abbrev pub records : List ℕ → ℕ
-records b = length b / 8
+records q = length q / 8
 
 abbrev pub cut : List ℕ → ℕ
-cut b = length b % 8
+cut q = length q % 8
 
--- what reading on begins with: of the first n bytes of b, those after the last whole record stand at the start; later bytes stay
+-- what reading on begins with: of the first n bytes of q, those after the last whole record stand at the start; later bytes stay
 abbrev pub carried : ℕ → List ℕ → List ℕ
-carried n b = take (n % 8) (drop (8 * (n / 8)) b) ++ drop (n % 8) b
+carried n q = take (n % 8) (drop (8 * (n / 8)) q) ++ drop (n % 8) q
 
 -- ---- "then .. each list entry; then .. the two counts (0 if no surface)"
 

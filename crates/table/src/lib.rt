@@ -16,7 +16,7 @@ pub fn wide(b: u8) -> usize
 }
 
 // Byte k of slot i.
-pub fn byte_at(t: &[u8], i: usize, k: usize) -> usize
+fn byte_at(t: &[u8], i: usize, k: usize) -> usize
     requires { ⌜ 8 * i + k < length (now t) ⌝ }
     ensures { λ r. ⌜ (r ≡ byte (now (t .entry)) i k) × (r < 256) ⌝ }
 {
