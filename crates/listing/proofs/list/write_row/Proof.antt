@@ -51,7 +51,7 @@ shared-slice-read-put-entry-3 c = let l = c .before .before .before .before in o
 put-entry-requires : tie.Need-put-entry-requires Inv-loop μ-loop
 put-entry-requires c κs =
     let l = c .before .before .before .before in
-    (part-long (l .before .loop .o) 8 (l .before .loop .room) (room l), start (l .before) .pre .1 .0 _ (l .loop-test .taken))
+    (part-long (l .before .loop .o) 8 (l .before .loop .room) (room l), start (l .before) .pre .1 .0 _ (omega (arith, l .loop-test .taken)))
 
 add-i : tie.Need-add-i Inv-loop μ-loop
 add-i c = let l = c .before .before .before .before .before .before .before in omega (arith, l .loop-test .taken)
