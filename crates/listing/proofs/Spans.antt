@@ -12,6 +12,7 @@ use lib.ListN.{length, getD, set}
 use lib.Seq.{getD-set-same, getD-set-other}
 use lib.Dec.{ltb}
 use borrow.Author.Tests.{lt-ltb, le-ltb}
+use Rattle.rules.specs.Surface.{Sides}
 use Rattle.rules.proofs.Tests.{lt-or-le}
 use Rattle.listing.specs.Row.{Stair, pushed, leaving, span, stairAt, entryAt, stack, rows, Rises, CutAt}
 use Rattle.listing.proofs.StairLaws.{Above, Rising, pushed-low, pushed-high, none-leaves}
@@ -163,3 +164,16 @@ pub rows-store : (ls rs hs : List ℕ) (o l r h : ℕ) → o < length ls → o <
 rows-store ls rs hs o l r h p q u =
     store (entryAt ls rs hs) (entryAt (set ls o l) (set rs o r) (set hs o h)) o (rw (getD-set-same ls o l 0 p, getD-set-same rs o r 0 q, getD-set-same hs o h 0 u))
     (λ j a. rw (getD-set-other ls o j l 0 (omega arith), getD-set-other rs o j r 0 (omega arith), getD-set-other hs o j h 0 (omega arith)))
+
+-- ---- the three arrays that a walk over the rows holds: 64 places each, whatever row was the last, and so enough for a row
+
+pub record Rooms (ls rs hs : List ℕ) : Type 0 where
+  pub lefts : length ls ≡ 64
+  pub rights : length rs ≡ 64
+  pub heights : length hs ≡ 64
+
+pub rooms-kept : {ls rs hs ls′ rs′ hs′ : List ℕ} → Rooms ls rs hs → length ls′ ≡ length ls → length rs′ ≡ length rs → length hs′ ≡ length hs → Rooms ls′ rs′ hs′
+rooms-kept r a b c = record { lefts = a ∙ r .lefts; rights = b ∙ r .rights; heights = c ∙ r .heights }
+
+pub rooms-wide : {W H : ℕ} {ls rs hs : List ℕ} → Sides W H → Rooms ls rs hs → (W ≤ length ls) × (W ≤ length rs) × (W ≤ length hs)
+rooms-wide s r = (omega (arith, r .lefts, s .widest), omega (arith, r .rights, s .widest), omega (arith, r .heights, s .widest))

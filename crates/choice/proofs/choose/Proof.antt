@@ -3,10 +3,10 @@ use mathlib.Core.Path.{_≡_, refl, sym, ap, _∙_}
 use mathlib.Core.List.{[]}
 use Prim.Native.Nat.{_+_, _-_, _≤_}
 use native.Mathlib.Omega.{arith}
-use lib.ListN.{length}
 use Rattle.rules.specs.Surface.{occupied}
 use Rattle.rules.specs.Requests.{rulePlace}
 use Rattle.listing.specs.Listed.{listed, rectsIn}
+use Rattle.listing.proofs.Spans.{Rooms, rooms-kept, rooms-wide}
 use Rattle.listing.proofs.ListLaws.{unscanned-rects}
 use Rattle.listing.proofs.ScanLaws.{scan-no}
 use Rattle.choice.specs.Best.{bestOf, unbeaten, placeIn, Chosen}
@@ -20,7 +20,7 @@ use Rattle.choice.proofs.choose.Tie as tie
 
 abbrev Inv-loop : tie.InvT-loop
 Inv-loop w h weights table rule mw mh scans lefts₀ rights₀ heights₀ best₀ y₀ lefts rights heights best y =
-    (length lefts ≡ 64) × (length rights ≡ 64) × (length heights ≡ 64) × (y ≤ h) × (best ≡ bestOf w h rule mw mh Nothing (listed (occupied table) w h y))
+    Rooms lefts rights heights × (y ≤ h) × (best ≡ bestOf w h rule mw mh Nothing (listed (occupied table) w h y))
 
 abbrev μ-loop : tie.MeasureT-loop
 μ-loop w h weights table rule mw mh scans lefts₀ rights₀ heights₀ best₀ y₀ lefts rights heights best y = h - y
@@ -41,7 +41,7 @@ rows : (t : tie.In-loop Inv-loop μ-loop) (b : Best) → let l = t .before in le
 rows t b e =
     let l = t .before in
     let a = start l .args in
-    rows-more (a .w) (a .h) (a .rule) (a .mw) (a .mh) (occupied (a .table .now)) (l .loop .y) (l .loop .best) b (l .loop .inv .4) e
+    rows-more (a .w) (a .h) (a .rule) (a .mw) (a .mh) (occupied (a .table .now)) (l .loop .y) (l .loop .best) b (l .loop .inv .2) e
 
 -- the best of all rows is what the rule chooses
 chosen : (s : tie.Start Inv-loop μ-loop) (b : Best) (r : Choice) → let a = s .args in
@@ -52,7 +52,7 @@ scanned-rows-requires : tie.Need-scanned-rows-requires Inv-loop μ-loop
 scanned-rows-requires c κs = let p = c .before .before .pre .0 in (p .whole, (p .sides .high, p .sides .highest))
 
 loop-holds : tie.Need-loop-holds Inv-loop μ-loop
-loop-holds c = let a = c .before .before .before .before .args in (refl, refl, refl, omega arith, rows-none (a .w) (a .h) (a .rule) (a .mw) (a .mh) (occupied (a .table .now)))
+loop-holds c = let a = c .before .before .before .before .args in (record { lefts = refl; rights = refl; heights = refl }, omega arith, rows-none (a .w) (a .h) (a .rule) (a .mw) (a .mh) (occupied (a .table .now)))
 
 array-read-if1 : tie.Need-array-read-if1 Inv-loop μ-loop
 array-read-if1 c = omega (arith, c .loop-test .taken, c .before .before .before .scanned-rows .ensures .long)
@@ -65,16 +65,13 @@ loop-again c =
     let a = start l .args in
     let none : rectsIn (occupied (a .table .now)) (a .w) (a .h) (l .loop .y) ≡ [] =
     unscanned-rects (a .table .now) (a .w) (a .h) (l .loop .y) (t .loop-test .taken) (scan-no (l .before .before .scanned-rows .ensures) _ (t .loop-test .taken) (c .if1 .taken)) in
-    let i = l .loop .inv in
-    (i .0, i .1, i .2, omega (arith, t .loop-test .taken), rows t (l .loop .best) (ap (bestOf (a .w) (a .h) (a .rule) (a .mw) (a .mh) (l .loop .best)) (sym none)))
+    (l .loop .inv .0, omega (arith, t .loop-test .taken), rows t (l .loop .best) (ap (bestOf (a .w) (a .h) (a .rule) (a .mw) (a .mh) (l .loop .best)) (sym none)))
 
 best-row-requires : tie.Need-best-row-requires Inv-loop μ-loop
 best-row-requires c κs =
     let t = entered c in
     let p = start (t .before) .pre in
-    let i = t .before .loop .inv in
-    let m = p .0 .sides .widest in
-    (p .0, ((p .1, t .loop-test .taken), (omega (arith, i .0, m), omega (arith, i .1, m), omega (arith, i .2, m))))
+    (p .0, ((p .1, t .loop-test .taken), rooms-wide (p .0 .sides) (t .before .loop .inv .0)))
 
 returns : tie.Need-returns Inv-loop μ-loop
 returns c =
@@ -93,9 +90,8 @@ loop-again-2 : tie.Need-loop-again-2 Inv-loop μ-loop
 loop-again-2 c =
     let r = rowed (c .before) in
     let t = entered (r .before) in
-    let i = t .before .loop .inv in
     let k = r .best-row .kept .1 .1 .1 .1 .1 .1 .1 .1 in
-    (k .0 ∙ i .0, k .1 .0 ∙ i .1, k .1 .1 .0 ∙ i .2, omega (arith, t .loop-test .taken), rows t _ (r .best-row .ensures))
+    (rooms-kept (t .before .loop .inv .0) (k .0) (k .1 .0) (k .1 .1 .0), omega (arith, t .loop-test .taken), rows t _ (r .best-row .ensures))
 
 returns-2 : tie.Need-returns-2 Inv-loop μ-loop
 returns-2 c =
@@ -103,8 +99,8 @@ returns-2 c =
     let s = start (e .before) in
     let a = s .args in
     let l = e .before .loop in
-    let q : l .y ≡ a .h = omega (arith, e .loop-test .left, l .inv .3) in
-    chosen s _ _ (c .place-in2 .ensures) (l .inv .4 ∙ ap (λ n. bestOf (a .w) (a .h) (a .rule) (a .mw) (a .mh) Nothing (listed (occupied (a .table .now)) (a .w) (a .h) n)) q)
+    let q : l .y ≡ a .h = omega (arith, e .loop-test .left, l .inv .1) in
+    chosen s _ _ (c .place-in2 .ensures) (l .inv .2 ∙ ap (λ n. bestOf (a .w) (a .h) (a .rule) (a .mw) (a .mh) Nothing (listed (occupied (a .table .now)) (a .w) (a .h) n)) q)
 
 pub choose-spec : {M : Type 1} → statement M
 choose-spec =

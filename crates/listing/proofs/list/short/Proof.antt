@@ -1,5 +1,5 @@
 -- `listing::list::short` meets its contract. Assumes nothing.
-use mathlib.Core.Path.{_≡_, refl, sym, ap, _∙_}
+use mathlib.Core.Path.{refl, sym, ap}
 use Prim.Native.Nat.{_-_, _*_, _≤_}
 use native.Mathlib.Nat.{mul-le-mul}
 use native.Mathlib.Omega.{arith}
@@ -10,6 +10,7 @@ use lib.ListN.{length}
 use Rattle.rules.specs.Surface.{occupied}
 use Rattle.rules.specs.Empties.{entries}
 use Rattle.meaning.proofs.Bound.{entries-few}
+use Rattle.listing.proofs.Spans.{Rooms, rooms-kept, rooms-wide}
 use Rattle.listing.proofs.ScanLaws.{scan-no}
 use Rattle.listing.proofs.Counted.{Found, found-none, found-more, found-skip, found-all}
 use Rattle.listing.proofs.list.short.Statement.{statement}
@@ -17,7 +18,7 @@ use Rattle.listing.proofs.list.short.Tie as tie
 
 abbrev Inv-loop : tie.InvT-loop
 Inv-loop w h weights table scans n lefts₀ rights₀ heights₀ found₀ y₀ lefts rights heights found y =
-    (length lefts ≡ 64) × (length rights ≡ 64) × (length heights ≡ 64) × Found w h table found y
+    Rooms lefts rights heights × Found w h table found y
 
 abbrev μ-loop : tie.MeasureT-loop
 μ-loop w h weights table scans n lefts₀ rights₀ heights₀ found₀ y₀ lefts rights heights found y = h - y
@@ -45,7 +46,7 @@ returns : tie.Need-returns Inv-loop μ-loop
 returns c = let s = c .before .before .before in sym (le-ltb (s .args .n) (8 * length (entries (occupied (s .args .table .now)) (s .args .w) (s .args .h))) (omega (arith, wide s .1, c .if1 .taken)))
 
 loop-holds : tie.Need-loop-holds Inv-loop μ-loop
-loop-holds c = (refl, refl, refl, found-none _ _ _)
+loop-holds c = (record { lefts = refl; rights = refl; heights = refl }, found-none _ _ _)
 
 shared-slice-read-if2 : tie.Need-shared-slice-read-if2 Inv-loop μ-loop
 shared-slice-read-if2 c = let t = c .before in omega (arith, t .loop-test .taken, start (t .before) .pre .1 .long)
@@ -54,21 +55,20 @@ loop-again : tie.Need-loop-again Inv-loop μ-loop
 loop-again c =
     let t = c .before .before in
     let i = t .before .loop .inv in
-    (i .0, i .1, i .2, found-skip _ _ _ _ _ (i .3) (t .loop-test .taken) (scan-no (start (t .before) .pre .1) _ (t .loop-test .taken) (c .if2 .taken)))
+    (i .0, found-skip _ _ _ _ _ (i .1) (t .loop-test .taken) (scan-no (start (t .before) .pre .1) _ (t .loop-test .taken) (c .if2 .taken)))
 
 row-requires : tie.Need-row-requires Inv-loop μ-loop
 row-requires c κs =
     let t = entered c in
     let p = start (t .before) .pre .0 in
-    let i = t .before .loop .inv in
-    (p, (t .loop-test .taken, (omega (arith, i .0, p .sides .widest), omega (arith, i .1, p .sides .widest), omega (arith, i .2, p .sides .widest))))
+    (p, (t .loop-test .taken, rooms-wide (p .sides) (t .before .loop .inv .0)))
 
 add-found : tie.Need-add-found Inv-loop μ-loop
 add-found c =
     let r = rowed c in
     let t = entered (r .before) in
     let p = start (t .before) .pre .0 in
-    omega (arith, r .row .ensures .1 .0 .1, t .before .loop .inv .3 .few, t .loop-test .taken, p .sides .widest, p .sides .highest)
+    omega (arith, r .row .ensures .1 .0 .1, t .before .loop .inv .1 .few, t .loop-test .taken, p .sides .widest, p .sides .highest)
 
 loop-again-2 : tie.Need-loop-again-2 Inv-loop μ-loop
 loop-again-2 c =
@@ -77,13 +77,13 @@ loop-again-2 c =
     let i = t .before .loop .inv in
     let k = r .row .kept .1 .1 .1 .1 .1 in
     let n = r .row .ensures .1 .0 in
-    (k .0 ∙ i .0, k .1 .0 ∙ i .1, k .1 .1 .0 ∙ i .2, found-more _ _ _ _ _ _ (i .3) (start (t .before) .pre .0 .sides .widest) (t .loop-test .taken) (n .0) (n .1))
+    (rooms-kept (i .0) (k .0) (k .1 .0) (k .1 .1 .0), found-more _ _ _ _ _ _ (i .1) (start (t .before) .pre .0 .sides .widest) (t .loop-test .taken) (n .0) (n .1))
 
 mul-result : tie.Need-mul-result Inv-loop μ-loop
-mul-result c = let f = c .before .loop .inv .3 in omega (arith, f .few, f .upto, start (c .before) .pre .0 .sides .highest)
+mul-result c = let f = c .before .loop .inv .1 in omega (arith, f .few, f .upto, start (c .before) .pre .0 .sides .highest)
 
 returns-2 : tie.Need-returns-2 Inv-loop μ-loop
-returns-2 c = ap (λ k. ltb (start (c .before) .args .n) (8 * k)) (found-all _ _ _ _ _ (c .before .loop .inv .3) (c .loop-test .left))
+returns-2 c = ap (λ k. ltb (start (c .before) .args .n) (8 * k)) (found-all _ _ _ _ _ (c .before .loop .inv .1) (c .loop-test .left))
 
 pub short-spec : {M : Type 1} → statement M
 short-spec =

@@ -9,6 +9,7 @@ use Rattle.rules.specs.Surface.{occupied}
 use Rattle.rules.specs.Empties.{scanned}
 use Rattle.listing.specs.Listed.{rectsIn, recordsIn, written}
 use Rattle.listing.proofs.ListLaws.{held-drawn, unscanned-rects, rects-length}
+use Rattle.listing.proofs.Spans.{Rooms, rooms-kept, rooms-wide}
 use Rattle.listing.proofs.ScanLaws.{scan-no, scan-yes}
 use Rattle.listing.proofs.Counted.{Turned, turned-none, row-corners, turned-more, turned-skip, turned-all}
 use Rattle.listing.proofs.Written.{Wrote, wrote-none, wrote-long, wrote-fits, wrote-more, wrote-skip, wrote-all, wrote-count, records-length, rows-records}
@@ -17,7 +18,7 @@ use Rattle.listing.proofs.list.write_list.Tie as tie
 
 abbrev Inv-loop : tie.InvT-loop
 Inv-loop w h weights table scans room₀ lefts₀ rights₀ heights₀ found₀ turned₀ y₀ room lefts rights heights found turned y =
-    (length lefts ≡ 64) × (length rights ≡ 64) × (length heights ≡ 64) × Wrote (occupied table) w h room₀ room y (8 * found) × Turned w h table turned y × (found ≤ 64 * y)
+    Rooms lefts rights heights × Wrote (occupied table) w h room₀ room y (8 * found) × Turned w h table turned y × (found ≤ 64 * y)
 
 abbrev μ-loop : tie.MeasureT-loop
 μ-loop w h weights table scans room₀ lefts₀ rights₀ heights₀ found₀ turned₀ y₀ room lefts rights heights found turned y = h - y
@@ -51,7 +52,7 @@ bytes r =
     omega (arith, r .row .ensures .1 .0 .0, rects-length occ (a .w) (a .h) (l .loop .y), records-length (rectsIn occ (a .w) (a .h) (l .loop .y)))
 
 loop-holds : tie.Need-loop-holds Inv-loop μ-loop
-loop-holds c = let s = c .before .before .before in (refl, refl, refl, wrote-none _ _ _ _ (s .pre .1 .1), turned-none _ _ _, omega arith)
+loop-holds c = let s = c .before .before .before in (record { lefts = refl; rights = refl; heights = refl }, wrote-none _ _ _ _ (s .pre .1 .1), turned-none _ _ _, omega arith)
 
 shared-slice-read-if1 : tie.Need-shared-slice-read-if1 Inv-loop μ-loop
 shared-slice-read-if1 c = let t = c .before in omega (arith, t .loop-test .taken, start (t .before) .pre .1 .0 .long)
@@ -63,22 +64,19 @@ loop-again c =
     let i = t .before .loop .inv in
     let bare = scan-no (s .pre .1 .0) _ (t .loop-test .taken) (c .if1 .taken) in (
       i .0,
-      i .1,
-      i .2,
-      wrote-skip _ _ _ _ (s .pre .1 .1) _ _ _ (i .3) (t .loop-test .taken) (unscanned-rects _ (s .args .w) _ _ (t .loop-test .taken) bare),
-      turned-skip _ _ _ _ _ (i .4) (s .pre .0 .sides .widest) bare,
-      omega (arith, i .5),
+      wrote-skip _ _ _ _ (s .pre .1 .1) _ _ _ (i .1) (t .loop-test .taken) (unscanned-rects _ (s .args .w) _ _ (t .loop-test .taken) bare),
+      turned-skip _ _ _ _ _ (i .2) (s .pre .0 .sides .widest) bare,
+      omega (arith, i .3),
     )
 
 row-requires : tie.Need-row-requires Inv-loop μ-loop
 row-requires c κs =
     let t = entered c in
     let p = start (t .before) .pre .0 in
-    let i = t .before .loop .inv in
-    (p, (t .loop-test .taken, (omega (arith, i .0, p .sides .widest), omega (arith, i .1, p .sides .widest), omega (arith, i .2, p .sides .widest))))
+    (p, (t .loop-test .taken, rooms-wide (p .sides) (t .before .loop .inv .0)))
 
 mul-write-row : tie.Need-mul-write-row Inv-loop μ-loop
-mul-write-row c = let t = turn (rowed c) in omega (arith, t .before .loop .inv .5, t .loop-test .taken, start (t .before) .pre .0 .sides .highest)
+mul-write-row c = let t = turn (rowed c) in omega (arith, t .before .loop .inv .3, t .loop-test .taken, start (t .before) .pre .0 .sides .highest)
 
 write-row-requires : tie.Need-write-row-requires Inv-loop μ-loop
 write-row-requires c κs =
@@ -89,11 +87,12 @@ write-row-requires c κs =
     let l = r .row .last .1 .1 .1 .1 .1 in
     let k = r .row .kept .1 .1 .1 .1 .1 in
     let m = r .row .ensures .1 .0 .1 in
-    let s = p .0 .sides in (
-      (omega (arith, m, k .0, i .0, s .widest), omega (arith, m, k .1 .0, i .1, s .widest), omega (arith, m, k .1 .1 .0, i .2, s .widest)),
+    let s = p .0 .sides in
+    let v = rooms-wide {ls = l .0} {rs = l .1 .0} {hs = l .1 .1 .0} s (rooms-kept (i .0) (k .0) (k .1 .0) (k .1 .1 .0)) in (
+      (omega (arith, m, v .0), omega (arith, m, v .1), omega (arith, m, v .2)),
       (
         held-drawn _ _ _ _ (l .0) (l .1 .0) (l .1 .1 .0) _ (t .loop-test .taken) (s .widest) (s .highest) (r .row .ensures .0),
-        omega (arith, bytes r, wrote-fits _ _ _ _ (p .1 .1) _ _ _ (i .3) (t .loop-test .taken)),
+        omega (arith, bytes r, wrote-fits _ _ _ _ (p .1 .1) _ _ _ (i .1) (t .loop-test .taken)),
       ),
     )
 
@@ -102,14 +101,14 @@ add-found c =
     let r = rowed (c .before .before .before .before) in
     let t = turn r in
     let s = start (t .before) .pre .0 .sides in
-    omega (arith, r .row .ensures .1 .0 .1, t .before .loop .inv .5, t .loop-test .taken, s .widest, s .highest)
+    omega (arith, r .row .ensures .1 .0 .1, t .before .loop .inv .3, t .loop-test .taken, s .widest, s .highest)
 
 add-turned : tie.Need-add-turned Inv-loop μ-loop
 add-turned c =
     let r = rowed (wrote c .before) in
     let t = turn r in
     let s = start (t .before) .pre .0 .sides in
-    omega (arith, row-corners _ _ _ _ _ (looked r) (r .row .ensures .1 .1) .1, t .before .loop .inv .4 .few, t .loop-test .taken, s .widest, s .highest)
+    omega (arith, row-corners _ _ _ _ _ (looked r) (r .row .ensures .1 .1) .1, t .before .loop .inv .2 .few, t .loop-test .taken, s .widest, s .highest)
 
 -- the row's records stand behind those before
 written-row : (c : tie.After-write-row Inv-loop μ-loop) → let l = turn (rowed (c .before)) .before in let a = start l .args in
@@ -128,19 +127,17 @@ loop-again-2 c =
     let p = start (t .before) .pre in
     let i = t .before .loop .inv in
     let k = r .row .kept .1 .1 .1 .1 .1 in (
-      k .0 ∙ i .0,
-      k .1 .0 ∙ i .1,
-      k .1 .1 .0 ∙ i .2,
-      wrote-more _ _ _ _ (p .1 .1) _ _ _ _ _ (i .3) (t .loop-test .taken) (omega (arith, bytes r)) (written-row (wrote c)),
-      turned-more _ _ _ _ _ _ (i .4) (p .0 .sides .widest) (looked r) (r .row .ensures .1 .1),
-      omega (arith, i .5, r .row .ensures .1 .0 .1, p .0 .sides .widest),
+      rooms-kept (i .0) (k .0) (k .1 .0) (k .1 .1 .0),
+      wrote-more _ _ _ _ (p .1 .1) _ _ _ _ _ (i .1) (t .loop-test .taken) (omega (arith, bytes r)) (written-row (wrote c)),
+      turned-more _ _ _ _ _ _ (i .2) (p .0 .sides .widest) (looked r) (r .row .ensures .1 .1),
+      omega (arith, i .3, r .row .ensures .1 .0 .1, p .0 .sides .widest),
     )
 
 returns : tie.Need-returns Inv-loop μ-loop
 returns c =
     let i = c .before .loop .inv in
     let fits = start (c .before) .pre .1 .1 in
-    (wrote-all _ _ _ _ fits _ _ _ (i .3) (c .loop-test .left), (wrote-count _ _ _ _ fits _ _ _ (i .3) (c .loop-test .left), turned-all _ _ _ _ _ (i .4) (omega (arith, i .3 .upto, c .loop-test .left))))
+    (wrote-all _ _ _ _ fits _ _ _ (i .1) (c .loop-test .left), (wrote-count _ _ _ _ fits _ _ _ (i .1) (c .loop-test .left), turned-all _ _ _ _ _ (i .2) (omega (arith, i .1 .upto, c .loop-test .left))))
 
 pub write-list-spec : {M : Type 1} → statement M
 write-list-spec =
@@ -167,5 +164,5 @@ write-list-spec =
     (λ c. let t = turn (rowed (wrote c .before)) in omega (arith, t .loop-test .taken, start (t .before) .pre .0 .sides .highest))
     (λ c. omega (arith, turn (rowed (wrote c .before)) .loop-test .taken))
     loop-again-2
-    (λ c. wrote-long _ _ _ _ (start (c .before) .pre .1 .1) _ _ _ (c .before .loop .inv .3))
+    (λ c. wrote-long _ _ _ _ (start (c .before) .pre .1 .1) _ _ _ (c .before .loop .inv .1))
     returns)
