@@ -10,9 +10,9 @@ use mathlib.Core.Option.{some}
 use Prim.Native.Nat.{ℕ, suc, _+_, _*_, _≤_, _<_}
 use lib.Dec.{eqb}
 use lib.ListN.{length, getD}
-use Rattle.rules.specs.Tests.{all}
+use Rattle.rules.specs.Tests.{count, all}
 use Rattle.rules.specs.Surface.{Standing, rect, covers, slots, rectOf, recordOf, freeRecord, withRecord, occupied, cell, fresh, usedSlots}
-use Rattle.rules.specs.Empties.{Empty}
+use Rattle.rules.specs.Empties.{Empty, scanned, scannedRows}
 use Rattle.rules.specs.Judging.{FirstThat}
 use Rattle.rules.specs.Requests.{idLow, idHigh, idAsked, ruleOf, wide, high, byRule, isPlace, isRemove, isPin, isExchange, makesNew, idPlaced, slotOf, lowestFree, pinned, ground, rulePlace, judging, stepOf, answerOf}
 use Rattle.rules.specs.Blocks.{requests, request}
@@ -23,7 +23,7 @@ use Rattle.demands.specs.Sound.{Sound, SlotForIt}
 use Rattle.demands.specs.History.{codeIn, placeIn, history, historyWeight}
 use Rattle.demands.specs.Told.{Told, Placed, LowestFree, SlotOfId}
 use Rattle.demands.specs.Frame.{OneFramed, BytesFramed}
-use Rattle.demands.specs.Listed.{HoldsList}
+use Rattle.demands.specs.Listed.{HoldsList, bottomIn}
 use Rattle.demands.specs.Chain.{RunCall, NotRefused, asked, answered, upTo, joined, ones, Chain, ChainOver}
 use Rattle.demands.specs.Chain.Chain.{cleared}
 use Rattle.demands.proofs.Calls as K
@@ -280,3 +280,36 @@ one-request-refused W H l₀ c z e one = S.one-refused c e one (C.chain-back W H
 pub request-counted : (W H : ℕ) (c : RunCall W H) → NotRefused c → (k : ℕ) → k < requests (c .block) →
     upTo c (suc k) .accepted ≡ upTo c k .accepted + cond (eqb (codeIn (answered c k)) 0) 1 0
 request-counted W H = A.answer-counted
+
+-- ==== ORDER 1: "Show that the list never has more than W entries for each scanned row, so W times the number of scanned rows is always enough room, and that every entry's bottom row is
+-- scanned." (Of the definitions, on every table: meaning/proofs/Theorems, `row-bound`, `list-bound`, `entry-row-scanned`.) Of any call; one that is refused has a first count of 0
+
+pub listed-bound : (W H : ℕ) (l : LentSurface) (room : List ℕ) {r : ℕ} {room′ : List ℕ} → HostListedBy W H l room r room′ → firstOfResult r ≤ W * scannedRows H (l .table)
+listed-bound = L.listed-bound
+
+-- of the rectangles in the room, at most W have any one bottom row
+pub listed-row-bound : (W H : ℕ) (l : LentSurface) (room : List ℕ) {r : ℕ} {room′ : List ℕ} → HostListedBy W H l room r room′ →
+    (y : ℕ) → count (firstOfResult r) (λ k. eqb (bottomIn room′ k) y) ≤ W
+listed-row-bound = L.listed-row-bound
+
+pub listed-row-scanned : (W H : ℕ) (l : LentSurface) (room : List ℕ) {r : ℕ} {room′ : List ℕ} → HostListedBy W H l room r room′ →
+    (k : ℕ) → k < firstOfResult r → scanned H (l .table) (bottomIn room′ k) ≡ true
+listed-row-scanned = L.listed-row-scanned
+
+-- a room of 8 bytes for each of these is never too short
+pub room-enough : (W H : ℕ) (l : LentSurface) (room : List ℕ) {r : ℕ} {room′ : List ℕ} → HostListedBy W H l room r room′ → 8 * (W * scannedRows H (l .table)) ≤ length room →
+    codeOfResult r ≡ 7 → ⊥
+room-enough = L.room-enough
+
+-- so a list is done where a check is; where the surface stands and its weights have their length; and after a clear and blocks that were not refused
+pub room-as-check : (W H : ℕ) (l : LentSurface) (room : List ℕ) {r : ℕ} {room′ : List ℕ} → HostListedBy W H l room r room′ → 8 * (W * scannedRows H (l .table)) ≤ length room →
+    codeOfResult r ≡ codeOfResult (hostCheck W H l)
+room-as-check = L.room-as-check
+
+pub room-enough-done : (W H : ℕ) (l : LentSurface) (room : List ℕ) {r : ℕ} {room′ : List ℕ} → HostListedBy W H l room r room′ → 8 * (W * scannedRows H (l .table)) ≤ length room →
+    length (l .weights) ≡ 2 * (W * H) → Standing W H (weightsIn l) (l .table) → codeOfResult r ≡ 0
+room-enough-done = L.room-enough-done
+
+pub chain-room-enough : (W H : ℕ) (l : LentSurface) (room : List ℕ) {r : ℕ} {room′ : List ℕ} → HostListedBy W H l room r room′ → 8 * (W * scannedRows H (l .table)) ≤ length room →
+    {l₀ : LentSurface} {qs : List (List ℕ)} {a : List ℕ} {n : ℕ} → Chain W H l₀ qs l a n → codeOfResult r ≡ 0
+chain-room-enough = L.chain-room-enough

@@ -116,6 +116,9 @@ module _ (W H : ℕ) (l₀ : LentSurface) where
     pub chain-back : bytesOf (weightsIn l) ≡ l .weights
     chain-back = came-to z .back
 
+    pub chain-long : length (l .weights) ≡ 2 * (W * H)
+    chain-long = ap length (sym chain-back) ∙ length-bytesOf (weightsIn l) ∙ ap (λ k. 2 * k) (chain-stands .long)
+
     -- THE TABLE HOLDS EXACTLY THE MODULES OF THE HISTORY after the first k of all requests, and every weight is the one worked out afresh from them
     told-at : (k : ℕ) → k ≤ requests asked → Told (history asked a k) (after W H asked start k .table)
     told-at k h =
@@ -175,7 +178,7 @@ chain-cut W H {l₀} {l₁} {l} {l′} {qs} {qs′} y z m e =
 
 -- ---- a block is then refused for its own sake alone
 
-standing-sizes : (W H : ℕ) (s : List ℤ) (t : List ℕ) → Standing W H s t → (badSize W H ≡ false) × (badTable (length t) ≡ false)
+pub standing-sizes : (W H : ℕ) (s : List ℤ) (t : List ℕ) → Standing W H s t → (badSize W H ≡ false) × (badTable (length t) ≡ false)
 unfolding badSize badTable
 standing-sizes W H s t d =
     let m : length t % 8 ≡ 0 = (let w = d .whole in omega arith) in (
@@ -193,11 +196,9 @@ standing-runs bad W H s t q room d e f g =
 module _ (W H : ℕ) (l₀ : LentSurface) where
   pub chain-runs : {qs : List (List ℕ)} {a : List ℕ} {n : ℕ} (c : RunCall W H) → Chain W H l₀ qs (c .lent) a n → badBlock (length (c .block)) ≡ false → length (c .room) ≡ length (c .block) → NotRefused c
   chain-runs c z f g =
-      let d = chain-stands W H l₀ z in
-      let b = c .lent .weights in
-      let m : length b ≡ 2 * (W * H) = ap length (sym (chain-back W H l₀ z)) ∙ length-bytesOf (weightsIn (c .lent)) ∙ ap (λ k. 2 * k) (d .long) in
       run-code W H (c .lent) (c .block) (c .room) (c .contract)
-      ∙ standing-runs (badBytes W H (c .lent)) W H (weightsIn (c .lent)) (c .lent .table) (c .block) (c .room) d (ap not (eq-eqb (length b) (2 * (W * H)) m)) f g
+      ∙ standing-runs (badBytes W H (c .lent)) W H (weightsIn (c .lent)) (c .lent .table) (c .block) (c .room) (chain-stands W H l₀ z)
+      (ap not (eq-eqb (length (c .lent .weights)) (2 * (W * H)) (chain-long W H l₀ z))) f g
 
   -- a call that left what some block that is not itself refused leaves IS A LINK, with that block's requests and the answers that it would have been given
   pub chain-link : {qs : List (List ℕ)} {l : LentSurface} {a : List ℕ} {n : ℕ} → Chain W H l₀ qs l a n → (q room : List ℕ) →

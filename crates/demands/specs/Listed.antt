@@ -2,8 +2,8 @@
 use mathlib.Core.Path.{_≡_}
 use mathlib.Core.Logic.{_↔_}
 use mathlib.Core.List.{List, _++_, List·Memᴰ}
-use Prim.Native.Nat.{ℕ, _*_}
-use lib.ListN.{length, drop}
+use Prim.Native.Nat.{ℕ, _+_, _-_, _*_}
+use lib.ListN.{length, getD, drop}
 use Rattle.rules.specs.Surface.{Standing, occupied}
 use Rattle.rules.specs.Empties.{Maximal, Earlier, Ordered, entryRecords, corners}
 use Rattle.rules.specs.Calls.{resultOf, firstOfResult, secondOfResult}
@@ -20,3 +20,7 @@ pub record HoldsList (W H : ℕ) (l : LentSurface) (room : List ℕ) (r : ℕ) (
   pub result : r ≡ resultOf 0 (length list) (corners W H (l .table))
   pub entries : firstOfResult r ≡ length list
   pub corners : secondOfResult r ≡ corners W H (l .table)
+
+-- the bottom row of the k-th rectangle in a room, y + h − 1: "A list record is x, y, w, h, .."
+abbrev pub bottomIn : List ℕ → ℕ → ℕ
+bottomIn room k = getD room (8 * k + 1) 0 + getD room (8 * k + 3) 0 - 1

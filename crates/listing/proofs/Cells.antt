@@ -19,10 +19,7 @@ use Rattle.rules.proofs.Tests.{and-both, four-and, any-yes, decide, lt-or-le}
 use Rattle.meaning.proofs.Weights.{upwards-le, upwards-pos, Within, covers-within, holds-covers, holds-used, holder-low, holder-holds, number-at, weight-number, weight-occupied, weight-empty, stands-cell, stands-slots}
 use Rattle.meaning.proofs.Stands.{sound-told, slots-told}
 use Rattle.cells.specs.Weight.{takenZ, countOf, widthOf}
-use Rattle.listing.specs.Row.{rows}
-use Rattle.listing.specs.Listed.{heightOf, support, entriesIn, Strides}
-use Rattle.listing.proofs.StairLaws.{entries-le}
-use Rattle.listing.proofs.Walks.{written-length}
+use Rattle.listing.specs.Listed.{heightOf, support, Strides}
 
 -- not 0 is more than 0
 pub positive : (v : ℕ) → (v ≡ 0 → ⊥) → 0 < v
@@ -150,8 +147,3 @@ module _ (W H : ℕ) (s : List ℤ) (t : List ℕ) (S : Standing W H s t) (x y :
           inside = omega (arith, on-surface, in-module .right);
           over = λ k a b. along k a (omega (arith, in-module .right));
         }
-
--- a row's buffers hold no more than W entries
-pub row-few : (occ : ℕ → ℕ → Bool) (W H y : ℕ) (ls rs es : List ℕ) (m : ℕ) → rows ls rs es m ≡ entriesIn occ W H y → m ≤ W
-unfolding entriesIn
-row-few occ W H y ls rs es m q = omega (arith, entries-le (heightOf occ W y) (support occ W H y) W, written-length _ ls rs es m q)

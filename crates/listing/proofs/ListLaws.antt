@@ -13,11 +13,11 @@ use Rattle.rules.specs.declared.Rect.{Rect}
 use Rattle.rules.proofs.Tests.{not-both, chain-mem, mem-chain}
 use Rattle.meaning.proofs.Rectangles.{rect-eq, entries-are}
 use Rattle.meaning.proofs.Order.{entries-ordered, ordered-chain}
+use Rattle.meaning.proofs.Bound.{one-row-few}
 use Rattle.meaning.proofs.Corners.{bottom-scanned}
 use Rattle.listing.specs.Row.{Entry, entryAt, rows}
 use Rattle.listing.specs.Meaning.{IsEntry, Before}
 use Rattle.listing.specs.Listed.{heightOf, support, entryOf, entryRect, entriesIn, rectsIn, listed, Drawn}
-use Rattle.listing.proofs.StairLaws.{entries-le}
 use Rattle.listing.proofs.Spans.{span-mem}
 use Rattle.listing.proofs.Meaning.{entries-mem, entries-ordered as row-ordered, ordered-map}
 use Rattle.listing.proofs.Cells.{height-past}
@@ -133,10 +133,12 @@ module _ (occ : ℕ → ℕ → Bool) (W H : ℕ) where
       (λ a m. listed-mem a .1 (entries-are occ W H a .0 m))
       (λ a m. entries-are occ W H a .1 (listed-mem a .0 m))
 
-  -- AT MOST W IN A ROW
-  pub rects-few : (y : ℕ) → length (rectsIn occ W H y) ≤ W
-  unfolding rectsIn entriesIn
-  rects-few y = rw length-map (entries-le (heightOf occ W y) (support occ W H y) W)
+  -- a row's buffers hold no more than W entries
+  pub row-few : (y : ℕ) → y < H → length (entriesIn occ W H y) ≤ W
+  unfolding rectsIn
+  row-few y h =
+      rw (← length-map (entriesIn occ W H y) (entryRect y))
+      (one-row-few occ W H y (rectsIn occ W H y) (λ a m. let o = of-row y a h m in (o .isMaximal, o .bottom)) (rects-ordered y h))
 
 -- A ROW THAT IS NOT SCANNED HAS NO ENTRY
 pub unscanned : (t : List ℕ) (W H y : ℕ) → y < H → scanned H t y ≡ false → entriesIn (occupied t) W H y ≡ []

@@ -221,9 +221,3 @@ count-le f b zero = le-refl 0
 count-le f b (suc x) =
     rw (ended-law f b x, push-law f x, length-append)
     (omega (arith, count-le f b x, step-le (ltb 0 (f x)) (f x) (reach b x) (x - 1) x (stairs f x)))
-
--- A ROW OF w CELLS HAS AT MOST w ENTRIES
-pub entries-le : (f : ℕ → ℕ) (b : ℕ → Bool) (w : ℕ) → length (rowEntries f b w) ≤ w
-unfolding ended
-entries-le f b w =
-    rw (ended-law f b w, length-append) (omega (arith, count-le f b w, leaving-le (f w) (reach b w) (w - 1) (stairs f w)))

@@ -2,9 +2,8 @@
 use mathlib.Core.Path.{_≡_}
 use mathlib.Core.Bool.{Bool, true, false}
 use mathlib.Core.List.{List, []}
-use Prim.Native.Nat.{ℕ, suc, _+_, _≤_, _<_}
+use Prim.Native.Nat.{ℕ, suc, _+_, _<_}
 use lib.Dec.{ltb}
-use lib.ListN.{length}
 use Rattle.rules.specs.Tests.{chain}
 use Rattle.rules.specs.Surface.{occupied}
 use Rattle.rules.specs.Empties.{Maximal, entries, scanned, corner}
@@ -43,11 +42,6 @@ one-cell-more = S.push-law
 
 pub leaving-are-entries : (f : ℕ → ℕ) (b : ℕ → Bool) (r : ℕ) → entriesAt f b r ≡ leaving (f (suc r)) (reach b (suc r)) r (stairs f (suc r))
 leaving-are-entries = S.leave-law
-
--- ---- a row has at most W entries
-
-pub row-few : (occ : ℕ → ℕ → Bool) (W H y : ℕ) → length (rectsIn occ W H y) ≤ W
-row-few = L.rects-few
 
 -- ---- "A corner is an empty cell of a scanned row that stands in the last column or whose right neighbour has a smaller weight": the height goes down
 

@@ -1,53 +1,85 @@
--- At most W·H entries: each has a column that is blocked right above its top row, and no two share that column and their bottom row. Assumes nothing.
-use mathlib.Core.Path.{_≡_, refl, sym, ap, _∙_}
-use mathlib.Core.Bool.{Bool, true, false, not, _||_}
-use mathlib.Core.List.{List, [], _∷_, List·Memᴰ, List·Memᴰ·head}
-use Prim.Native.Nat.{ℕ, zero, suc, _+_, _-_, _*_, _/_, _%_, _≤_, _<_, min, max}
-use native.Mathlib.Nat.{le-refl, mul-comm}
+-- At most W entries with one bottom row: each has a column that is blocked right above its top row, and no two share that column and their bottom row. So at most W
+-- for each row that is some entry's bottom row, and W·H in all. Assumes nothing.
+use mathlib.Core.Path.{_≡_, refl, sym, ap, _∙_, subst}
+use mathlib.Core.Bool.{Bool, true, false, not, cond, _||_}
+use mathlib.Core.List.{List, [], _∷_, List·Memᴰ, List·Memᴰ·head, List·Memᴰ·tail}
+use Prim.Native.Nat.{ℕ, zero, suc, _+_, _-_, _*_, _≤_, _<_, min, max}
+use native.Mathlib.Nat.{le-refl}
 use native.Mathlib.Omega.{arith}
-use lib.Arith.{digits-lt, digits-div, digits-mod}
 use lib.Dec.{eqb}
 use lib.ListN.{length}
 use borrow.Author.Tests.{eqb-true, eqb-false, not-true}
-use Rattle.rules.specs.Tests.{leastFrom, keep}
+use Rattle.rules.specs.Tests.{total, count, leastFrom, keep}
 use Rattle.rules.specs.Surface.{rect}
-use Rattle.rules.specs.Empties.{Empty, Maximal, entries, Ordered}
+use Rattle.rules.specs.Empties.{Empty, Maximal, entries, Earlier, Ordered}
 use Rattle.rules.specs.declared.Rect.{Rect}
-use Rattle.rules.proofs.Tests.{or-neither, not-both, fails, leastFrom-is, keep-all, mem-keep}
+use Rattle.rules.proofs.Tests.{or-neither, not-both, fails, leastFrom-is, count-all, total-le, mem-keep}
 use Rattle.meaning.proofs.Splits.{by-test, by-or, by-less}
 use Rattle.meaning.proofs.Rectangles.{not-larger, entries-are}
 use Rattle.meaning.proofs.Order.{ordered-keep, ordered-by, entries-ordered, earlier-other}
 
--- ---- a list whose items have different keys below n has at most n items
+-- ---- the items of a list, by a key below n
+
+-- what is kept and what is not are all
+keep-both : {A : Type 0} (p : A → Bool) (l : List A) → length l ≡ length (keep p l) + length (keep (λ a. not (p a)) l)
+unfolding keep
+keep-both p [] = refl
+keep-both p (x ∷ l) = by-test (p x) (λ e. rw e (omega (arith, keep-both p l))) (λ e. rw e (omega (arith, keep-both p l)))
+
+-- of fewer, no more are kept
+keep-few : {A : Type 0} (p q : A → Bool) (l : List A) → length (keep p (keep q l)) ≤ length (keep p l)
+unfolding keep
+keep-few p q [] = le-refl 0
+keep-few p q (x ∷ l) =
+    let k = keep-few p q l in
+    by-test (q x)
+    (λ e. rw e (by-test (p x) (λ f. rw f (omega (arith, k))) (λ f. rw f k)))
+    (λ e. rw e (by-test (p x) (λ f. rw f (omega (arith, k))) (λ f. rw f k)))
+
+-- none is kept where the test holds for none
+none-kept : {A : Type 0} (p : A → Bool) (l : List A) → ((a : A) → List·Memᴰ a l → p a ≡ true → ⊥) → length (keep p l) ≤ 0
+unfolding keep
+none-kept p [] f = le-refl 0
+none-kept p (x ∷ l) f = rw (fails (p x) (f x (List·Memᴰ·head refl))) (none-kept p l (λ a m. f a (List·Memᴰ·tail m)))
 
 module _ {A : Type 0} (key : A → ℕ) where
+  abbrev at : ℕ → A → Bool
+  at n a = eqb (key a) n
+
+  -- at most f k items with each key k
+  by-keys : (n : ℕ) (f : ℕ → ℕ) (l : List A) → ((a : A) → List·Memᴰ a l → key a < n) → ((k : ℕ) → k < n → length (keep (at k) l) ≤ f k) → length l ≤ total n f
+  unfolding total
+  by-keys zero f [] h g = omega arith
+  by-keys zero f (x ∷ l) h g = absurd (let z = h x (List·Memᴰ·head refl) in omega arith)
+  by-keys (suc n) f l h g =
+      let others : A → Bool = λ a. not (at n a) in
+      let r : length (keep others l) ≤ total n f =
+      by-keys n f (keep others l)
+      (λ a m.
+      let k = mem-keep others l m in
+      let z = h a (k .0) in
+      let d = eqb-false (key a) n (not-true _ (k .1)) in
+      omega arith)
+      (λ k z. let q = keep-few (at k) others l in omega (arith, g k (omega arith))) in
+      omega (arith, keep-both (at n) l, g n (omega arith))
+
   abbrev Apart : A → A → Type 0
   Apart a b = key a ≡ key b → ⊥
 
-  abbrev others : ℕ → A → Bool
-  others n a = not (eqb (key a) n)
+  -- different keys: one item with each
+  one-each : (k : ℕ) (l : List A) → ((a : A) → List·Memᴰ a l → key a ≡ k) → Ordered Apart l → length l ≤ 1
+  unfolding Ordered
+  one-each k [] f o = omega arith
+  one-each k (x ∷ []) f o = omega arith
+  one-each k (x ∷ y ∷ l) f o = absurd (o .0 y (List·Memᴰ·head refl) (f x (List·Memᴰ·head refl) ∙ sym (f y (List·Memᴰ·tail (List·Memᴰ·head refl)))))
 
-  one-left-out : (n : ℕ) (l : List A) → Ordered Apart l → length l ≤ suc (length (keep (others n) l))
-  unfolding Ordered keep
-  one-left-out n [] o = omega arith
-  one-left-out n (x ∷ l) o =
-      by-test (eqb (key x) n)
-      (λ e. rw (e, keep-all (others n) l (λ a m. ap not (fails (eqb (key a) n) (λ q. o .0 a m (eqb-true _ _ e ∙ sym (eqb-true _ _ q)))))) (le-refl _))
-      (λ e. rw e (omega (arith, one-left-out n l (o .1))))
-
-  pub few : (n : ℕ) (l : List A) → ((a : A) → List·Memᴰ a l → key a < n) → Ordered Apart l → length l ≤ n
-  few zero [] f o = omega arith
-  few zero (x ∷ l) f o = absurd (let h = f x (List·Memᴰ·head refl) in omega arith)
-  few (suc n) l f o =
-      let r : length (keep (others n) l) ≤ n =
-      few n (keep (others n) l)
-      (λ a m.
-      let k = mem-keep (others n) l m in
-      let h = f a (k .0) in
-      let d = eqb-false (key a) n (not-true _ (k .1)) in
-      omega arith)
-      (ordered-keep Apart (others n) l o) in
-      omega (arith, one-left-out n l o)
+  -- so at most n
+  few : (n : ℕ) (l : List A) → ((a : A) → List·Memᴰ a l → key a < n) → Ordered Apart l → length l ≤ n
+  few n l f o =
+      let r : length l ≤ total n (λ k. 1) =
+      by-keys n (λ k. 1) l f (λ k h. one-each k (keep (at k) l) (λ a m. eqb-true (key a) k (mem-keep (at k) l m .1)) (ordered-keep Apart (at k) l o)) in
+      let e = count-all n (λ k. true) (λ k h. refl) in
+      omega arith
 
 -- ---- the key of a maximal rectangle
 
@@ -115,25 +147,12 @@ module _ (occ : ℕ → ℕ → Bool) (W H : ℕ) where
       let q : both ≡ b = n .most both e (record { left = omega arith; top = omega arith; right = omega arith; bottom = omega arith }) in
       sym p ∙ q
 
-  -- the cell of the bottom row in that column, as a number
-  key : Rect → ℕ
-  key a = (a .y + a .h - 1) * W + column a
-
   column-low : (a : Rect) → Maximal occ W H a → column a < W
   column-low a m = let k = blocked-at a m in omega (arith, k .upto, m .isEmpty .columns)
 
-  key-low : (a : Rect) → Maximal occ W H a → key a < H * W
-  unfolding key
-  key-low a m = digits-lt (omega (arith, m .isEmpty .tall, m .isEmpty .lines)) (column-low a m)
-
-  key-one : (a b : Rect) → Maximal occ W H a → Maximal occ W H b → key a ≡ key b → a ≡ b
-  unfolding key
-  key-one a b m n e =
-      let la = column-low a m in
-      let lb = column-low b n in
-      let rows : a .y + a .h - 1 ≡ b .y + b .h - 1 = sym (digits-div (a .y + a .h - 1) la) ∙ ap (λ k. k / W) e ∙ digits-div (b .y + b .h - 1) lb in
-      let cols : column a ≡ column b = sym (digits-mod (a .y + a .h - 1) la) ∙ ap (λ k. k % W) e ∙ digits-mod (b .y + b .h - 1) lb in
-      let bottom : a .y + a .h ≡ b .y + b .h = omega (arith, m .isEmpty .tall, n .isEmpty .tall) in
+  -- two with the same bottom row and the same such column are one
+  column-one : (a b : Rect) → Maximal occ W H a → Maximal occ W H b → a .y + a .h ≡ b .y + b .h → column a ≡ column b → a ≡ b
+  column-one a b m n bottom cols =
       let ka = blocked-at a m in
       let kb = blocked-at b n in
       let fa : a .x ≤ column b = omega (arith, ka .from) in
@@ -144,13 +163,36 @@ module _ (occ : ℕ → ℕ → Bool) (W H : ℕ) where
       let q = not-lower b a (column a) (n .isEmpty) (sym bottom) fb gb ka (m .isEmpty .tall) in
       same-rows a b (column b) m n (omega arith) (omega arith) fa ga (kb .from) (kb .upto)
 
-  -- AT MOST W·H ENTRIES
+  -- AT MOST W WITH ONE BOTTOM ROW, in any list of maximal rectangles that is in order
+  pub one-row-few : (y : ℕ) (l : List Rect) → ((a : Rect) → List·Memᴰ a l → Maximal occ W H a × (a .y + a .h ≡ suc y)) → Ordered Earlier l → length l ≤ W
+  one-row-few y l f o =
+      few column W l
+      (λ a m. column-low a (f a m .0))
+      (ordered-by _ _ l (λ a b m n p e. earlier-other a b p (column-one a b (f a m .0) (f b n .0) (f a m .1 ∙ sym (f b n .1)) e)) o)
+
+  abbrev bottom : Rect → ℕ
+  bottom a = a .y + a .h - 1
+
+  pub row-bound : (y : ℕ) → length (keep (λ a. eqb (a .y + a .h - 1) y) (entries occ W H)) ≤ W
+  row-bound y =
+      one-row-few y (keep (at bottom y) (entries occ W H))
+      (λ a m.
+      let k = mem-keep (at bottom y) (entries occ W H) m in
+      let i = entries-are occ W H a .0 (k .0) in
+      let q = eqb-true (bottom a) y (k .1) in
+      (i, omega (arith, i .isEmpty .tall)))
+      (ordered-keep Earlier (at bottom y) (entries occ W H) (entries-ordered occ W H))
+
+  -- AT MOST W ENTRIES FOR EACH ROW OF A SET that has every entry's bottom row
+  pub rows-bound : (p : ℕ → Bool) → ((a : Rect) → List·Memᴰ a (entries occ W H) → p (a .y + a .h - 1) ≡ true) → length (entries occ W H) ≤ W * count H p
+  rows-bound p f =
+      let l = entries occ W H in
+      let r : length l ≤ total H (λ y. cond (p y) W 0) =
+      by-keys bottom H (λ y. cond (p y) W 0) l
+      (λ a m. let i = entries-are occ W H a .0 m .isEmpty in omega (arith, i .tall, i .lines))
+      (λ y h. by-test (p y) (λ e. rw e (row-bound y)) (λ e. rw e (none-kept (at bottom y) l (λ a m q. not-both (p y) (ap p (sym (eqb-true (bottom a) y q)) ∙ f a m) e)))) in
+      omega (arith, total-le H W p (λ y. cond (p y) W 0) (λ y h. le-refl _))
+
+  -- AT MOST W·H ENTRIES: all rows are such a set
   pub entries-few : length (entries occ W H) ≤ W * H
-  entries-few =
-      let r : length (entries occ W H) ≤ H * W =
-      few key (H * W) (entries occ W H)
-      (λ a m. key-low a (entries-are occ W H a .0 m))
-      (ordered-by _ _ (entries occ W H)
-      (λ a b m n p e. earlier-other a b p (key-one a b (entries-are occ W H a .0 m) (entries-are occ W H b .0 n) e))
-      (entries-ordered occ W H)) in
-      omega (arith, mul-comm W H)
+  entries-few = subst (λ n. length (entries occ W H) ≤ W * n) (count-all H (λ y. true) (λ k h. refl)) (rows-bound (λ y. true) (λ a m. refl))

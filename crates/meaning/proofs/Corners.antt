@@ -1,18 +1,18 @@
 -- The lower right cell of each maximal rectangle is a corner, and its row is scanned. Assumes nothing.
-use mathlib.Core.Path.{_≡_, ap, ap₂, _∙_}
+use mathlib.Core.Path.{_≡_, ap, ap₂, _∙_, subst, refl}
 use mathlib.Core.Bool.{Bool, true, false, not, _&&_}
 use mathlib.Core.List.{List}
-use Prim.Native.Nat.{ℕ, zero, suc, _+_, _-_, _*_, _≤_, _<_}
-use native.Mathlib.Nat.{le-refl, mul-comm}
+use Prim.Native.Nat.{ℕ, suc, _+_, _-_, _*_, _≤_, _<_}
+use native.Mathlib.Nat.{le-refl}
 use native.Mathlib.Omega.{arith}
 use lib.Dec.{eqb}
 use lib.Signed.{ltZ}
 use borrow.Author.Tests.{le-leb, lt-ltb, eq-eqb, not-false}
-use Rattle.rules.specs.Tests.{every, total, count}
+use Rattle.rules.specs.Tests.{every, count}
 use Rattle.rules.specs.Surface.{rect, covers, slots, rectOf, usedSlot, holds, occupied, upwards, weight}
 use Rattle.rules.specs.Empties.{cellsEmpty, Maximal, scanned, corner, corners}
 use Rattle.rules.specs.declared.Rect.{Rect}
-use Rattle.rules.proofs.Tests.{and-both, four-and, not-both, or-left, or-right, fails, every-fails, any-at, any-yes, count-le}
+use Rattle.rules.proofs.Tests.{and-both, four-and, not-both, or-left, or-right, fails, every-fails, any-at, any-yes, count-le, count-all, total-le}
 use Rattle.meaning.proofs.Splits.{by-test, by-less}
 use Rattle.meaning.proofs.Rectangles.{cellsEmpty-at, not-larger}
 use Rattle.meaning.proofs.Weights.{upwards-free, upwards-ge, covers-within, Within, holds-covers, holds-used, weight-occupied, weight-empty}
@@ -135,14 +135,9 @@ module _ (t : List ℕ) (W H : ℕ) (a : Rect) (m : Maximal (occupied t) W H a) 
       (λ p. or-right (eqb (a .x + a .w) W) _ (smaller p))
       (λ p. or-left (eqb (a .x + a .w) W) _ (eq-eqb (a .x + a .w) W (omega (arith, m .isEmpty .columns))))))
 
--- a sum of n numbers of at most k each
-total-le : (n k : ℕ) (f : ℕ → ℕ) → ((j : ℕ) → f j ≤ k) → total n f ≤ n * k
-unfolding total
-total-le zero k f h = omega arith
-total-le (suc n) k f h = omega (arith, total-le n k f h, h n)
-
 -- AT MOST W·H CORNERS
 pub corners-few : (W H : ℕ) (t : List ℕ) → corners W H t ≤ W * H
 unfolding corners
 corners-few W H t =
-    omega (arith, total-le H W (λ y. count W (λ x. corner W H t x y)) (λ y. count-le W (λ x. corner W H t x y)), mul-comm W H)
+    subst (λ n. corners W H t ≤ W * n) (count-all H (λ y. true) (λ k h. refl))
+    (total-le H W (λ y. true) (λ y. count W (λ x. corner W H t x y)) (λ y h. count-le W (λ x. corner W H t x y)))

@@ -4,12 +4,14 @@ use mathlib.Core.Bool.{Bool, true, not}
 use mathlib.Core.Logic.{_↔_}
 use mathlib.Core.List.{List, _∷_, _++_, List·Memᴰ}
 use mathlib.Core.Option.{some}
-use Prim.Native.Nat.{ℕ, _+_, _-_, _*_, _≤_, _<_}
+use Prim.Native.Nat.{ℕ, suc, _+_, _-_, _*_, _≤_, _<_}
+use lib.Dec.{eqb}
 use lib.IntN.{ℤ, pos}
 use lib.ListN.{length}
 use lib.Signed.{ltZ}
-use Rattle.rules.specs.Surface.{occupied, cell, stands}
-use Rattle.rules.specs.Empties.{empty, maximal, Empty, Maximal, entries, Earlier, Ordered, scanned, corner, corners}
+use Rattle.rules.specs.Tests.{count, keep}
+use Rattle.rules.specs.Surface.{occupied, cell, stands, usedSlots}
+use Rattle.rules.specs.Empties.{empty, maximal, Empty, Maximal, entries, Earlier, Ordered, scanned, scannedRows, corner, corners}
 use Rattle.rules.specs.Judging.{Line, first, NoneApplies, FirstThat}
 use Rattle.meaning.specs.Numbers.{above, hasCode, differ, rising}
 use Rattle.rules.specs.Requests.{position, rulePlace, soundLines, placeLines, judging, stepOf}
@@ -19,6 +21,7 @@ use Rattle.rules.specs.declared.Step.the-variants.{Refused}
 use Rattle.meaning.proofs.Rectangles as R
 use Rattle.meaning.proofs.Order as O
 use Rattle.meaning.proofs.Bound as B
+use Rattle.meaning.proofs.Counts as N
 use Rattle.meaning.proofs.Weights as S
 use Rattle.meaning.proofs.Corners as C
 use Rattle.meaning.proofs.Choice as P
@@ -47,6 +50,28 @@ list-in-order = O.entries-ordered
 pub list-once : (a b : Rect) → Earlier a b → a ≡ b → ⊥
 list-once = O.earlier-other
 
+-- ---- "the list never has more than W entries for each scanned row, so W times the number of scanned rows is always enough room, and .. every entry's bottom row is scanned" (order 1):
+-- on every table, whether its surface stands or not
+
+-- at most W entries have their bottom row at y
+pub row-bound : (occ : ℕ → ℕ → Bool) (W H y : ℕ) → length (keep (λ a. eqb (a .y + a .h - 1) y) (entries occ W H)) ≤ W
+row-bound = B.row-bound
+
+pub entry-row-scanned : (t : List ℕ) (W H : ℕ) (a : Rect) → List·Memᴰ a (entries (occupied t) W H) → scanned H t (a .y + a .h - 1) ≡ true
+entry-row-scanned t W H a m = C.bottom-scanned t W H a (R.entries-are (occupied t) W H a .0 m)
+
+-- so at most W for each row of any set of rows that has every entry's bottom row: the scanned rows are such a set, and all rows are
+pub rows-bound : (occ : ℕ → ℕ → Bool) (W H : ℕ) (p : ℕ → Bool) → ((a : Rect) → List·Memᴰ a (entries occ W H) → p (a .y + a .h - 1) ≡ true) → length (entries occ W H) ≤ W * count H p
+rows-bound = B.rows-bound
+
+pub list-bound : (W H : ℕ) (t : List ℕ) → length (entries (occupied t) W H) ≤ W * scannedRows H t
+unfolding scannedRows
+list-bound W H t = rows-bound (occupied t) W H (scanned H t) (entry-row-scanned t W H)
+
+-- the scanned rows are no more than the rows, and at most one more than the used slots
+pub scanned-rows-few : (H : ℕ) (t : List ℕ) → (scannedRows H t ≤ H) × (scannedRows H t ≤ suc (usedSlots t))
+scanned-rows-few H t = (N.scanned-rows-high H t, N.scanned-rows-used H t)
+
 -- ---- "At most W·H entries exist."
 
 pub list-few : (occ : ℕ → ℕ → Bool) (W H : ℕ) → length (entries occ W H) ≤ W * H
@@ -59,9 +84,6 @@ corners-few = C.corners-few
 
 pub lower-right-corner : (t : List ℕ) (W H : ℕ) (a : Rect) → Maximal (occupied t) W H a → corner W H t (a .x + a .w - 1) (a .y + a .h - 1) ≡ true
 lower-right-corner = C.lower-right-corner
-
-pub bottom-scanned : (t : List ℕ) (W H : ℕ) (a : Rect) → Maximal (occupied t) W H a → scanned H t (a .y + a .h - 1) ≡ true
-bottom-scanned = C.bottom-scanned
 
 -- ---- "An empty cell holds the number of empty cells ..; an occupied cell .. holds −(x + w − c)": on a standing surface a weight is positive exactly
 -- when the cell is empty

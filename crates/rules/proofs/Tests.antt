@@ -3,8 +3,8 @@ use mathlib.Core.Path.{_≡_, refl, sym, ap, ap₂, _∙_, subst}
 use mathlib.Core.Bool.{Bool, true, false, not, cond, _&&_, _||_, true≢false, false≢true}
 use mathlib.Core.Logic.{_⊎_, inl, inr, ⊎-elim}
 use mathlib.Core.List.{List, [], _∷_, List·Memᴰ, List·Memᴰ·head, List·Memᴰ·tail, List·Memᴰ·not-nil, List·Memᴰ·cases-cons, List·Memᴰ·append-cases, Memᴰ·append-left, Memᴰ·append-right}
-use Prim.Native.Nat.{ℕ, zero, suc, _+_, _≤_, _<_}
-use native.Mathlib.Nat.{le-refl, eq-or-lt-of-le, le-of-suc-le-suc}
+use Prim.Native.Nat.{ℕ, zero, suc, _+_, _*_, _≤_, _<_}
+use native.Mathlib.Nat.{le-refl, eq-or-lt-of-le, le-of-suc-le-suc, mul-add}
 use native.Mathlib.Decide.{decLt}
 use native.Mathlib.Omega.{arith}
 use lib.ListN.{length, getD}
@@ -171,6 +171,11 @@ unfolding total
 total-same zero f g h = refl
 total-same (suc n) f g h = ap₂ _+_ (total-same n f g (λ k l. h k (omega arith))) (h n (omega arith))
 
+pub total-first : (n : ℕ) (f : ℕ → ℕ) → total (suc n) f ≡ f 0 + total n (λ k. f (suc k))
+unfolding total
+total-first zero f = omega arith
+total-first (suc n) f = omega (arith, total-first n f)
+
 -- at most as many as there are
 pub count-le : (n : ℕ) (p : ℕ → Bool) → count n p ≤ n
 unfolding total
@@ -180,6 +185,50 @@ count-le (suc n) p = go (p n) (count-le n p)
     go : (b : Bool) → count n p ≤ n → count n p + cond b 1 0 ≤ suc n
     go true h = omega arith
     go false h = omega arith
+
+-- as many as there are, where it holds for each
+pub count-all : (n : ℕ) (p : ℕ → Bool) → ((k : ℕ) → k < n → p k ≡ true) → count n p ≡ n
+unfolding total
+count-all zero p h = refl
+count-all (suc n) p h = rw (h n (omega arith)) (omega (arith, count-all n p (λ k l. h k (omega arith))))
+
+-- none, where it fails for each
+pub count-none : (n : ℕ) (p : ℕ → Bool) → ((k : ℕ) → k < n → p k ≡ false) → count n p ≡ 0
+unfolding total
+count-none zero p h = refl
+count-none (suc n) p h = rw (h n (omega arith)) (omega (arith, count-none n p (λ k l. h k (omega arith))))
+
+-- at most one, where it holds for one alone
+pub count-one : (n : ℕ) (p : ℕ → Bool) → ((j k : ℕ) → p j ≡ true → p k ≡ true → j ≡ k) → count n p ≤ 1
+unfolding total
+count-one zero p h = omega arith
+count-one (suc n) p h = go (p n) refl (count-one n p h)
+  where
+    go : (b : Bool) → p n ≡ b → count n p ≤ 1 → count n p + cond b 1 0 ≤ 1
+    go true e l = let z = count-none n p (λ k g. fails (p k) (λ q. let a = h k n q e in omega arith)) in omega arith
+    go false e l = omega arith
+
+-- of two tests together, at most as many as of both by themselves
+pub count-or : (n : ℕ) (p q : ℕ → Bool) → count n (λ k. p k || q k) ≤ count n p + count n q
+unfolding total
+count-or zero p q = omega arith
+count-or (suc n) p q = go (p n) (q n) (count-or n p q)
+  where
+    go : (a b : Bool) → count n (λ k. p k || q k) ≤ count n p + count n q → count n (λ k. p k || q k) + cond (a || b) 1 0 ≤ (count n p + cond a 1 0) + (count n q + cond b 1 0)
+    go true true l = omega arith
+    go true false l = omega arith
+    go false true l = omega arith
+    go false false l = omega arith
+
+-- a sum of numbers, each at most b, and 0 where p fails
+pub total-le : (n b : ℕ) (p : ℕ → Bool) (f : ℕ → ℕ) → ((k : ℕ) → k < n → f k ≤ cond (p k) b 0) → total n f ≤ b * count n p
+unfolding total
+total-le zero b p f h = omega arith
+total-le (suc n) b p f h = go (p n) (h n (omega arith)) (total-le n b p f (λ k l. h k (omega arith)))
+  where
+    go : (c : Bool) → f n ≤ cond c b 0 → total n f ≤ b * count n p → total n f + f n ≤ b * (count n p + cond c 1 0)
+    go true k l = omega (arith, mul-add b (count n p) 1)
+    go false k l = omega arith
 
 -- ---- signed numbers
 
@@ -238,6 +287,21 @@ module _ {A : Type 0} (p : A → Bool) where
       go : (b : Bool) → p x ≡ b → List·Memᴰ a (put b x (keep p l)) → (List·Memᴰ a (keep p l) → List·Memᴰ a l × (p a ≡ true)) → List·Memᴰ a (x ∷ l) × (p a ≡ true)
       go true q m r = ⊎-elim (λ (z : a ≡ x). (List·Memᴰ·head z, ap p z ∙ q)) (λ k. (List·Memᴰ·tail (r k .0), r k .1)) (List·Memᴰ·cases-cons m)
       go false q m r = (List·Memᴰ·tail (r m .0), r m .1)
+
+  -- the items for which p holds, counted by their places
+  pub keep-count : (l : List A) (d : A) → count (length l) (λ k. p (getD l k d)) ≡ length (keep p l)
+  unfolding keep total
+  keep-count [] d = refl
+  keep-count (x ∷ l) d = total-first (length l) (λ k. cond (p (getD (x ∷ l) k d)) 1 0) ∙ go (p x) (keep-count l d)
+    where
+      go : (b : Bool) → count (length l) (λ k. p (getD l k d)) ≡ length (keep p l) → cond b 1 0 + count (length l) (λ k. p (getD l k d)) ≡ length (put b x (keep p l))
+      go true e = omega arith
+      go false e = omega arith
+
+pub mem-getD : {A : Type 0} (l : List A) (k : ℕ) (d : A) → k < length l → List·Memᴰ (getD l k d) l
+mem-getD [] k d h = absurd (omega arith)
+mem-getD (x ∷ l) zero d h = List·Memᴰ·head refl
+mem-getD (x ∷ l) (suc k) d h = List·Memᴰ·tail (mem-getD l k d (omega arith))
 
 -- ---- all
 

@@ -96,6 +96,10 @@ entryRecords (r ∷ l) = entryRecord r ++ entryRecords l
 unfoldable pub scanned : ℕ → List ℕ → ℕ → Bool
 scanned H t y = eqb (suc y) H || any (slots t) (λ i. usedSlot t i && eqb (rectOf t i .y) (suc y))
 
+-- "W times the number of scanned rows is always enough room" (order 1): how many of the rows 0 .. H − 1 are scanned, each counted once
+unfoldable pub scannedRows : ℕ → List ℕ → ℕ
+scannedRows H t = count H (scanned H t)
+
 -- "A corner is an empty cell of a scanned row that stands in the last column or whose right neighbour has a smaller weight."
 unfoldable pub corner : ℕ → ℕ → List ℕ → ℕ → ℕ → Bool
 corner W H t x y = not (occupied t x y) && scanned H t y && (eqb (suc x) W || ltZ (weight t (suc x) y) (weight t x y))

@@ -2,11 +2,12 @@
 use mathlib.Core.Path.{_≡_, refl}
 use mathlib.Core.Bool.{Bool, true, not, _&&_}
 use mathlib.Core.List.{List, [], _∷_, _++_}
-use Prim.Native.Nat.{ℕ, _+_, _-_}
+use Prim.Native.Nat.{ℕ, _+_, _-_, _*_}
 use lib.Dec.{eqb}
+use lib.ListN.{length, replicate}
 use Rattle.rules.specs.Tests.{all}
 use Rattle.rules.specs.Surface.{rect, recordOf, occupied, fresh}
-use Rattle.rules.specs.Empties.{entries, corner, corners}
+use Rattle.rules.specs.Empties.{entries, scannedRows, corner, corners}
 use Rattle.rules.specs.Figures.{check, list, Case, caseHolds, eight, free, e, o}
 use Rattle.rules.specs.declared.Rect.{Rect}
 
@@ -44,6 +45,37 @@ same-lists = refl
 pub other-corners : (corners 2 3 two ≡ 3) × (corners 2 3 one ≡ 2)
 unfolding caseHolds
 other-corners = (refl, refl)
+
+-- ---- "the list never has more than W entries for each scanned row, so W times the number of scanned rows is always enough room" (order 1)
+
+-- one 1×1 module at (0, 0), which adds no scanned row
+abbrev first : List ℕ
+first = recordOf 1 0 (rect 0 0 1 1)
+
+abbrev room : ℕ → List ℕ
+room n = replicate n 9
+
+-- 2×2 with it: THE BOUND IS MET, two entries and one scanned row; 16 bytes of room do, 15 do not
+pub bound-met : (scannedRows 2 first ≡ 1) × (length (entries (occupied first) 2 2) ≡ 2 * scannedRows 2 first)
+unfolding caseHolds
+bound-met = (refl, refl)
+
+pub bound-needed : (list 2 2 (fresh 2 2 first) first (room 16) .code ≡ 0) × (list 2 2 (fresh 2 2 first) first (room 15) .code ≡ 7)
+unfolding caseHolds
+bound-needed = (refl, refl)
+
+-- IT IS A BOUND AND NO COUNT: 1×1 with it has no entry and one scanned row; the two surfaces above have two entries each, and three scanned rows there, two here
+pub bound-not-met : (length (entries (occupied first) 1 1) ≡ 0) × (scannedRows 1 first ≡ 1) × (length (entries (occupied two) 2 3) ≡ 2) × (scannedRows 3 two ≡ 3) × (scannedRows 3 one ≡ 2)
+unfolding caseHolds
+bound-not-met = (refl, refl, refl, refl, refl)
+
+-- A ROW IS COUNTED ONCE, however many modules begin below it: 3×2 with modules at (0, 1) and (2, 1)
+abbrev side : List ℕ
+side = recordOf 1 0 (rect 0 1 1 1) ++ recordOf 2 0 (rect 2 1 1 1)
+
+pub row-counted-once : scannedRows 2 side ≡ 2
+unfolding caseHolds
+row-counted-once = refl
 
 -- ---- cases beside A to I, for what those do not tell apart
 

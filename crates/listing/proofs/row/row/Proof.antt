@@ -1,6 +1,8 @@
 -- `listing::row::row` meets its contract. Assumes nothing.
+use Rattle.rules.specs.Surface.{occupied}
 use Rattle.listing.proofs.Walks.{written-length}
-use Rattle.listing.proofs.Cells.{row-few}
+use Rattle.listing.proofs.ListLaws.{row-few}
+use native.Mathlib.Omega.{arith}
 use borrow.Author.Needs.{needs}
 use Rattle.listing.proofs.row.row.Statement.{statement}
 use Rattle.listing.proofs.row.row.Tie as tie
@@ -12,10 +14,14 @@ walk-requires c κs =
 
 returns : tie.Need-returns
 returns c =
-    let called = c .before .before .before .before .before .before .before .before .walk in
+    let at = c .before .before .before .before .before .before .before .before in
+    let s = at .before .before .before .before .before .before .before .before .before .before in
+    let a = s .args in
+    let called = at .walk in
     let left = called .last .1 .1 .1 .1 .1 .1 .1 in
     let wrote = called .ensures .0 in
-    (wrote, ((written-length _ (left .0) (left .1 .0) (left .1 .1 .0) _ wrote, row-few _ _ _ _ (left .0) (left .1 .0) (left .1 .1 .0) _ wrote), called .ensures .1))
+    let long = written-length _ (left .0) (left .1 .0) (left .1 .1 .0) _ wrote in
+    (wrote, ((long, omega (arith, long, row-few (occupied (a .table .now)) (a .w) (a .h) (a .y) (s .pre .1 .0))), called .ensures .1))
 
 pub row-spec : {M : Type 1} → statement M
 row-spec =
