@@ -183,13 +183,37 @@ static const struct { const char *name; unsigned w, h; void (*make)(void); } wor
     { "list, 32 scanned rows", 8, 64, same_rows }, { "list, 32 scanned rows", 16, 64, same_rows },
     { "list, 32 scanned rows", 32, 64, same_rows }, { "list, 32 scanned rows", 64, 64, same_rows } };
 
-static void add_surface(const char *list, const char *check)
+/* Gives the call of the list. */
+static struct lent *add_surface(const char *list, const char *check)
 {
     const struct lent *l = painted();
     add_call(CHECK, l);
     add_row(check, 1, strcmp(check, "") != 0);
-    add_call(LIST, l);
+    struct lent *called = add_call(LIST, l);
     add_row(list, 1, 1);
+    return called;
+}
+
+/* W times the number of scanned rows. */
+static unsigned scanned_cells(const struct lent *l)
+{
+    uint8_t is_scanned[65] = { 0 };     /* the row above this one */
+    unsigned scanned = 0;
+    is_scanned[l->h] = 1;
+    for (unsigned i = 0; i < sizeof l->table; i += 8)
+        if (is_used(l->table + i))
+            is_scanned[l->table[i + 3]] = 1;
+    for (unsigned y = 1; y <= l->h; y++)
+        scanned += is_scanned[y] * l->w;
+    return scanned;
+}
+
+/* The same surface once more, and a room of W entries for each scanned row: always
+ * enough, and shorter than for W*H entries. */
+static void add_room_of_rows(void)
+{
+    struct lent *l = add_surface("list, room of W × scanned rows", "");
+    l->room_len = 8 * scanned_cells(l);
 }
 
 /* The ids of the table in the order of its slots, the last one first. */
@@ -228,6 +252,8 @@ static void add_surfaces(void)
             begin(side, side);
             occupy(percents[i]);
             add_surface(lists[i], checks[i]);
+            if (side >= 32 && percents[i] == 50)
+                add_room_of_rows();
         }
     for (unsigned i = 0; i < sizeof worst / sizeof worst[0]; i++) {
         begin(worst[i].w, worst[i].h);
@@ -458,18 +484,13 @@ static unsigned long average(const struct row *r, unsigned side)
 /* Modules, occupied cells and scanned cells of a surface. */
 static void measure(const struct lent *l, unsigned *used, unsigned *occupied, unsigned *scanned)
 {
-    uint8_t is_scanned[65] = { 0 };
-    *used = *occupied = *scanned = 0;
-    is_scanned[l->h] = 1;
+    *used = *occupied = 0;
+    *scanned = scanned_cells(l);
     for (unsigned i = 0; i < sizeof l->table; i += 8) {
         const uint8_t *s = l->table + i;
         *used += is_used(s) ? 1 : 0;
         *occupied += s[4] * s[5];
-        if (is_used(s))
-            is_scanned[s[3]] = 1;
     }
-    for (unsigned y = 1; y <= l->h; y++)
-        *scanned += is_scanned[y] * l->w;
 }
 
 static void print_row(const struct row *r)

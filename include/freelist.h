@@ -54,7 +54,11 @@
  *           op and id as they came; x, y, w, h of the new module or of the one
  *           removed, four zeros where the request is refused.
  *
- * room      8 bytes for each entry of the list or more (8*w*h is enough always).
+ * room      8 bytes for each entry of the list or more. For a surface that stands
+ *           8*w bytes for each scanned row are always enough, and so are 8*w*h and
+ *           8*w*(slots + 1). The scanned rows are the last row, and each row just
+ *           above the top row of some used slot's module; each counts once, however
+ *           many modules begin below it, and a module whose top row is 0 adds none.
  *
  *               byte    0   1   2   3   4    5   6   7
  *                     +---+---+---+---+---------+---+---+
@@ -134,11 +138,11 @@ uint64_t freelist_run(uint64_t w, uint64_t h,
                       uint8_t *answers, uint64_t answers_len);
 
 /* Lists the maximal empty rectangles: those empty rectangles that no other
- * empty one contains, by bottom row, then right column, then left column. First
- * count: entries. Second: corners, the empty cells of the bottom row, and of each
- * row just above some module's top row, that stand in the last column or have a
- * right neighbour of smaller weight. Writes the entries from the start of room; the
- * bytes behind them stay. */
+ * empty one contains, by bottom row, which is a scanned one (see room), then right
+ * column, then left column. First count: entries. Second: corners, the empty cells
+ * of the scanned rows that stand in the last column or have a right neighbour of
+ * smaller weight. Writes the entries from the start of room; the bytes behind them
+ * stay. */
 uint64_t freelist_list(uint64_t w, uint64_t h,
                        const uint8_t *weights, uint64_t weights_len,
                        const uint8_t *table, uint64_t table_len,

@@ -324,19 +324,6 @@ static void entries_from(const struct surface *s, int left, int top,
                 add_entry(list, left, top, right, bottom);
 }
 
-/* "The list holds every maximal empty rectangle, once each and in the stated
- * order, with nothing else in it." */
-static void list_maximal(const struct surface *s, struct list *list)
-{
-    list->count = 0;
-    for (int top = 0; top < (int)s->H; top++)
-        for (int left = 0; left < (int)s->W; left++)
-            entries_from(s, left, top, list);
-    if (list->count > s->W * s->H)
-        contradiction("more entries than cells");
-    qsort(list->entry, list->count, sizeof list->entry[0], compare_entries);
-}
-
 /* "A row y is scanned when y = H - 1 or some module has its top row at
  * y + 1." */
 static int row_is_scanned(const struct surface *s, unsigned y)
@@ -347,6 +334,35 @@ static int row_is_scanned(const struct surface *s, unsigned y)
         if (s->module[i].y == y + 1)
             return 1;
     return 0;
+}
+
+/* "the list never has more than W entries for each scanned row, so W times the
+ * number of scanned rows is always enough room, and [...] every entry's bottom
+ * row is scanned" (order 1) */
+static void rows_hold(const struct surface *s, const struct list *list)
+{
+    unsigned entries[SIDE_MAX] = { 0 };     /* by bottom row */
+    for (unsigned i = 0; i < list->count; i++) {
+        unsigned bottom = list->entry[i].y + list->entry[i].h - 1;
+        if (!row_is_scanned(s, bottom))
+            contradiction("the bottom row of an entry is not scanned");
+        if (++entries[bottom] > s->W)
+            contradiction("more than W entries of one bottom row");
+    }
+}
+
+/* "The list holds every maximal empty rectangle, once each and in the stated
+ * order, with nothing else in it." */
+static void list_maximal(const struct surface *s, struct list *list)
+{
+    list->count = 0;
+    for (int top = 0; top < (int)s->H; top++)
+        for (int left = 0; left < (int)s->W; left++)
+            entries_from(s, left, top, list);
+    if (list->count > s->W * s->H)
+        contradiction("more entries than cells");
+    rows_hold(s, list);
+    qsort(list->entry, list->count, sizeof list->entry[0], compare_entries);
 }
 
 /* "A corner is an empty cell of a scanned row that stands in the last column
@@ -366,6 +382,19 @@ static unsigned count_corners(const struct surface *s)
         for (unsigned x = 0; x < s->W; x++)
             if (is_corner(s, x, y))
                 n++;
+    return n;
+}
+
+/* "the number of scanned rows": each once, not once for each module. */
+unsigned brute_scanned_rows(unsigned w, unsigned h,
+                            const uint8_t *table, uint64_t table_len)
+{
+    struct surface s;
+    unsigned n = 0;
+    read_modules(&s, w, h, table, (unsigned)(table_len / RECORD));
+    for (unsigned y = 0; y < h; y++)
+        if (row_is_scanned(&s, y))
+            n++;
     return n;
 }
 

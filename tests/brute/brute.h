@@ -12,4 +12,7 @@
 
 DECLARE_CALLS(brute);
 
+/* How many rows of a surface that stands are scanned: as its table tells. */
+unsigned brute_scanned_rows(unsigned w, unsigned h, const uint8_t *table, uint64_t table_len);
+
 #endif

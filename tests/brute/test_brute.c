@@ -141,6 +141,11 @@ static int counts(struct bench *b, unsigned entries, unsigned corners)
     return first_of(b->listed) == entries && second_of(b->listed) == corners;
 }
 
+static unsigned scanned(const struct bench *b)
+{
+    return brute_scanned_rows((unsigned)b->w, (unsigned)b->h, b->table, table_len(b));
+}
+
 /* ---- the worked figures ------------------------------------------------ */
 
 static void cases_a_to_c(void)
@@ -215,7 +220,7 @@ static void cases_g_to_i(void)
     }
 }
 
-/* Equal weights and lists, 3 corners or 2. */
+/* Equal weights and lists, 3 corners or 2, 3 scanned rows or 2. */
 static void two_by_three(void)
 {
     struct bench a, b;
@@ -224,10 +229,25 @@ static void two_by_three(void)
     cleared(&b, 2, 3, 2);
     CHECK(pin(&b, 1, 1, 2, 0, 1) == 0);
     CHECK(memcmp(a.weights, b.weights, sizeof a.weights) == 0);
-    CHECK(counts(&a, 2, 3));
-    CHECK(counts(&b, 2, 2));
+    CHECK(counts(&a, 2, 3) && scanned(&a) == 3);
+    CHECK(counts(&b, 2, 2) && scanned(&b) == 2);
     CHECK(memcmp(a.room, b.room, sizeof a.room) == 0);
     CHECK(entry_is(&a, 0, 0, 0, 2, 1) && entry_is(&a, 1, 1, 0, 1, 3));
+}
+
+/* "the list never has more than W entries for each scanned row": a surface with as
+ * many. A top row of 0 scans none, and two modules with one top row scan one. */
+static void scanned_rows(void)
+{
+    struct bench b;
+    cleared(&b, 2, 2, 3);
+    CHECK(counts(&b, 1, 1) && scanned(&b) == 1);
+    CHECK(pin(&b, 1, 1, 1, 0, 0) == 0 && counts(&b, 2, 1) && scanned(&b) == 1);
+    CHECK(entry_is(&b, 0, 0, 1, 2, 1) && entry_is(&b, 1, 1, 0, 1, 2));
+    CHECK(code_of(brute_list(2, 2, b.weights, 8, b.table, 24, b.room, 8 * 2 * 1)) == 0);
+    CHECK(code_of(brute_list(2, 2, b.weights, 8, b.table, 24, b.room, 8 * 2 * 1 - 8)) == 7);
+    CHECK(pin(&b, 2, 1, 1, 0, 1) == 0 && counts(&b, 1, 2) && scanned(&b) == 2);
+    CHECK(pin(&b, 3, 1, 1, 1, 1) == 0 && counts(&b, 1, 1) && scanned(&b) == 2);
 }
 
 /* ---- the edges ---------------------------------------------------------- */
@@ -749,10 +769,19 @@ static int places_agree(unsigned W, unsigned H, unsigned filling, const struct b
     return 1;
 }
 
+/* All modules are single cells: row y - 1 is scanned where row y has one. */
+static unsigned scanned_above(unsigned W, unsigned H, unsigned filling)
+{
+    unsigned n = 1;
+    for (unsigned y = 1; y < H; y++)
+        n += (filling >> y * W & ((1u << W) - 1)) != 0;
+    return n;
+}
+
 static void every_filling(unsigned W, unsigned H)
 {
     static struct bench b;
-    unsigned wrong_list = 0, wrong_place = 0, off = 0;
+    unsigned wrong_list = 0, wrong_place = 0, wrong_rows = 0, off = 0;
     for (unsigned filling = 0; filling >> (W * H) == 0; filling++) {
         uint8_t q[16 * 8], a[16 * 8];
         unsigned n = 0;
@@ -772,10 +801,12 @@ static void every_filling(unsigned W, unsigned H)
         off += code_of(b.listed) != 0;
         wrong_list += !list_is_all(W, H, filling, &b);
         wrong_place += !places_agree(W, H, filling, &b);
+        wrong_rows += scanned(&b) != scanned_above(W, H, filling);
     }
     CHECK(off == 0);
     CHECK(wrong_list == 0);
     CHECK(wrong_place == 0);
+    CHECK(wrong_rows == 0);
 }
 
 /* ---- the program ----------------------------------------------------------- */
@@ -845,6 +876,7 @@ int main(void)
     cases_d_to_f();
     cases_g_to_i();
     two_by_three();
+    scanned_rows();
     size_edges();
     sizes_elsewhere();
     block_edges();

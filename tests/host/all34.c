@@ -29,7 +29,8 @@ static void fill_table(void)
     }
 }
 
-/* Room enough for each entry; in one case in eight one byte less. */
+/* Room of W entries for each scanned row; in one case in eight also one byte less
+ * than the entries take, and in one in four room for W*H of them or more. */
 static void one_way(void)
 {
     c.w = W;
@@ -43,9 +44,11 @@ static void one_way(void)
         printf("host: a way to lay %u modules does not stand\n", laid);
         differ++;
     }
-    c.call = LIST;
-    fill_any(&c.lent[ROOM], one_in(8) ? 8 * entries_of(&c) - (entries_of(&c) > 0) : 8 * W * H + below(9));
-    both(&c);
+    unsigned need = 8 * listed_in_bound(&c);
+    if (one_in(8))
+        listed_in(&c, need - (need > 0));
+    if (one_in(4))
+        listed_in(&c, 8 * W * H + below(9));
     ways++;
 }
 

@@ -98,6 +98,24 @@ static void blocks(void)
     is("a byte less", list(7), 7);
 }
 
+static unsigned list_2x2(uint64_t room_len)
+{
+    return freelist_code(freelist_list(2, 2, weights, 8, table, 8, room, room_len));
+}
+
+/* "W times the number of scanned rows is always enough room": on 2x2 with a module on cell (0,0)
+ * one row is scanned, and the list has W entries. */
+static void scanned_rows(void)
+{
+    static const uint8_t pin[8] = { 3, 0, 1, 0, 1, 1, 0, 0 };
+    is("a cleared 2x2", clear(2, 2, 8, 8), 0);
+    is("a module on (0,0)", freelist_code(freelist_run(2, 2, weights, 8, table, 8, pin, 8, answers, 8)), 0);
+    is("the module there", answers[0], 0);
+    is("room for W entries for one scanned row", list_2x2(8 * 2 * 1), 0);
+    is("that room a byte less", list_2x2(8 * 2 * 1 - 1), 7);
+    is("that room an entry less", list_2x2(8 * 2 * 1 - 8), 7);
+}
+
 static void records(void)
 {
     anew(4);
@@ -145,6 +163,7 @@ int main(void)
 {
     sizes();
     blocks();
+    scanned_rows();
     records();
     places();
     printf("beside: %d cases, %d wrong\n", cases, wrong);

@@ -11,6 +11,7 @@
 
 unsigned long cases, differ;
 
+static uint64_t last_given;                     /* by the library */
 static unsigned long ways[WAYS];
 static const struct call_case *current;         /* of the library, for the handler */
 
@@ -160,7 +161,7 @@ uint64_t both(struct call_case *c)
     uint8_t *p[BUFFERS] = { NULL };
     copy_case(&before, c);
     uint64_t expected = brute_force(c);
-    uint64_t given = ask_library(&before, expected, p);
+    uint64_t given = last_given = ask_library(&before, expected, p);
     count_case(c, expected);
     if (!is_same(c, p, expected, given))
         report(&before, c, p, expected, given);
@@ -169,6 +170,8 @@ uint64_t both(struct call_case *c)
             give_back(i);
     return expected;
 }
+
+uint64_t library_gave(void) { return last_given; }
 
 /* ---- counts ----------------------------------------------------------------- */
 

@@ -12,6 +12,9 @@ void both_begin(void);
  * leaves in the case what the brute force left. Gives its result. */
 uint64_t both(struct call_case *c);
 
+/* The library's result of the last call. */
+uint64_t library_gave(void);
+
 void print_seen(void);
 
 #endif

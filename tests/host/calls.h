@@ -4,8 +4,16 @@
 
 #include "lending.h"
 
-/* The number of entries that the surface's list has. */
-unsigned entries_of(const struct call_case *c);
+/* List with a room of this length. */
+uint64_t listed_in(struct call_case *c, uint64_t room);
+
+/* "W times the number of scanned rows is always enough room": list a surface that
+ * stands with room for exactly so many entries; the library may not answer 7.
+ * Gives the number of entries. */
+unsigned listed_in_bound(struct call_case *c);
+
+/* How many lists were lent so, and how many of them had no entry less. */
+extern unsigned long bounds_lent, bounds_filled;
 
 /* Check, and list with rooms of several lengths; gives the check's result. */
 uint64_t checked_and_listed(struct call_case *c);

@@ -1,6 +1,6 @@
 #!/bin/sh
 # The library as its users get it: run.sh DIRECTORY. Installs it under DIRECTORY/prefix and tests the archive, the header, the pkg-config file and the
-# example host there. Exit status 0 when all went well.
+# example hosts there. Exit status 0 when all went well.
 set -eu
 here=$(dirname "$0")
 . "$here/../need.sh"
@@ -31,9 +31,11 @@ for compiler in "$cc -std=c11" "$cxx -std=c++11 -x c++"; do
 done
 
 flags=$(PKG_CONFIG_PATH="$build/prefix/lib/pkgconfig" pkg-config --cflags --libs freelist)
-$cc -std=c11 $strict -o "$build/triggers" "$here/../../examples/triggers.c" $flags
-$start "$build/triggers" >"$build/triggers.out"
-cmp "$build/triggers.out" "$here/../../examples/triggers.txt" || fail "the example host"
+for host in triggers panel; do
+    $cc -std=c11 $strict -o "$build/$host" "$here/../../examples/$host.c" $flags
+    $start "$build/$host" >"$build/$host.out" || fail "the example host $host ended with $?"
+    cmp "$build/$host.out" "$here/../../examples/$host.txt" || fail "the example host $host"
+done
 $cc -std=c11 $strict -o "$build/stack" "$here/stack.c" $flags
 $start "$build/stack" || fail "the stack"
-echo "the library: archive, header, pkg-config, example host, stack: right"
+echo "the library: archive, header, pkg-config, example hosts, stack: right"
