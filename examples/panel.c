@@ -1,8 +1,8 @@
 /* A front panel that shows what is free on a surface of 16 by 12 cells and has no memory for a
  * list of W*H entries. It lends exactly 8*W bytes for each scanned row. After a clear and blocks
  * that were not refused that is always enough: theorem chain-room-enough; and there is at most one
- * scanned row more than there are slots: theorem scanned-rows-few, by which the panel's memory is
- * sized (crates/assured/proofs/Assured.antt, crates/meaning/proofs/Theorems.antt). */
+ * scanned row more than there are used slots: theorem scanned-rows-few, by which the panel's memory
+ * is sized (crates/assured/proofs/Assured.antt, crates/meaning/proofs/Theorems.antt). */
 #include <stdio.h>
 
 #include "freelist.h"
@@ -30,7 +30,7 @@ static uint64_t scanned_rows(void)
 static unsigned count_scanned(void)
 {
     unsigned count = 0;
-    for (uint64_t n = scanned_rows(); n != 0; n &= n - 1)
+    for (uint64_t rows = scanned_rows(); rows != 0; rows &= rows - 1)
         count++;
     return count;
 }
@@ -41,7 +41,7 @@ static int run(const char *what, const uint8_t request[8])
     uint64_t r = freelist_run(W, H, weights, sizeof weights, table, sizeof table,
                               request, 8, answer, 8);
     if (freelist_code(r) != 0 || answer[0] != 0) {
-        printf("%s: refused\n", what);
+        printf("%s: refused with %u\n", what, freelist_code(r) != 0 ? freelist_code(r) : answer[0]);
         return 1;
     }
     printf("%s: %dx%d at (%d,%d); scanned rows: %u\n", what,

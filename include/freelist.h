@@ -57,8 +57,9 @@
  * room      8 bytes for each entry of the list or more. For a surface that stands
  *           8*w bytes for each scanned row are always enough, and so are 8*w*h and
  *           8*w*(slots + 1). The scanned rows are the last row, and each row just
- *           above the top row of some used slot's module; each counts once, however
- *           many modules begin below it, and a module whose top row is 0 adds none.
+ *           above the top row of some used slot's module, in the table that is lent
+ *           with the room; each counts once, however many modules begin below it,
+ *           and a module whose top row is 0 adds none.
  *
  *               byte    0   1   2   3   4    5   6   7
  *                     +---+---+---+---+---------+---+---+
@@ -139,8 +140,8 @@ uint64_t freelist_run(uint64_t w, uint64_t h,
 
 /* Lists the maximal empty rectangles: those empty rectangles that no other
  * empty one contains, by bottom row, which is a scanned one (see room), then right
- * column, then left column. First count: entries. Second: corners, the empty cells
- * of the scanned rows that stand in the last column or have a right neighbour of
+ * column, then left column. First count: entries. Second: corners, those empty
+ * cells of scanned rows that stand in the last column or have a right neighbour of
  * smaller weight. Writes the entries from the start of room; the bytes behind them
  * stay. */
 uint64_t freelist_list(uint64_t w, uint64_t h,

@@ -8,7 +8,7 @@
 uint64_t listed_in(struct call_case *c, uint64_t room);
 
 /* "W times the number of scanned rows is always enough room": list a surface that
- * stands with room for exactly so many entries; the library may not answer 7.
+ * stands with room for exactly so many entries; the library must be done.
  * Gives the number of entries. */
 unsigned listed_in_bound(struct call_case *c);
 

@@ -5,7 +5,7 @@
  *   compare all34                every way to lay modules on 3x4 and on 4x3
  *
  * Exit status 0 when no case differs, every code was given that may be, and no
- * other. */
+ * other, and some list filled a room of W entries for each scanned row. */
 #include "all34.h"
 #include "blocks.h"
 #include "both.h"

@@ -1,4 +1,4 @@
--- THE THREE DEMANDS ON THE EXPORTED CALLS: the file to open first. Each statement stands under the sentence of document 00 that it answers. Its hypotheses are the contracts that the four
+-- THE THREE DEMANDS AND THE ORDERS ON THE EXPORTED CALLS: the file to open first. Each statement stands under the sentence of document 00 or 02 that it answers. Its hypotheses are the contracts that the four
 -- exported functions carry in their source: HostClearedBy, r ≡ hostCheck .., HostRanBy, HostListedBy (rules/specs/Host). W and H are the sizes, l is what the host lends of a surface, the
 -- bytes of its weights and its table; r is the number returned; a prime marks what a buffer holds afterwards. A RunCall c is a call of run: what it was lent, returned and left, and its
 -- contract (demands/specs/Chain). The proofs stand in the files that the `use` lines name. No axiom is used.
@@ -301,7 +301,7 @@ pub room-enough : (W H : ℕ) (l : LentSurface) (room : List ℕ) {r : ℕ} {roo
     codeOfResult r ≡ 7 → ⊥
 room-enough = L.room-enough
 
--- so a list is done where a check is; where the surface stands and its weights have their length; and after a clear and blocks that were not refused
+-- so a list gets the code that a check gets; 0 where the surface stands and its weights have their length; and 0 after a clear and blocks that were not refused
 pub room-as-check : (W H : ℕ) (l : LentSurface) (room : List ℕ) {r : ℕ} {room′ : List ℕ} → HostListedBy W H l room r room′ → 8 * (W * scannedRows H (l .table)) ≤ length room →
     codeOfResult r ≡ codeOfResult (hostCheck W H l)
 room-as-check = L.room-as-check

@@ -1,5 +1,5 @@
 -- Corners of a scanned row by its heights: a cell is a corner exactly when the next height is smaller. Assumes nothing.
-use mathlib.Core.Path.{_≡_, refl, sym, ap, ap₂, _∙_}
+use mathlib.Core.Path.{_≡_, sym, ap, ap₂, _∙_}
 use mathlib.Core.Bool.{Bool, true, false, cond, and-false}
 use mathlib.Core.Logic.{⊎-elim}
 use mathlib.Core.List.{List}
@@ -13,7 +13,7 @@ use borrow.Author.Tests.{lt-ltb, le-ltb, eq-eqb, ne-eqb}
 use Rattle.rules.specs.Tests.{total, count}
 use Rattle.rules.specs.Surface.{occupied, weight}
 use Rattle.rules.specs.Empties.{scanned, corner}
-use Rattle.rules.proofs.Tests.{total-same, decide}
+use Rattle.rules.proofs.Tests.{total-same, count-none, decide}
 use Rattle.meaning.proofs.Weights.{weight-occupied, weight-empty, upwards-pos}
 use Rattle.listing.specs.Row.{before, turns}
 use Rattle.listing.specs.Listed.{heightOf}
@@ -76,12 +76,7 @@ turns-corners W H t y n s e =
     e ∙ ap (turns (heightOf (occupied t) W y)) (add-one W) ∙ turns-count (heightOf (occupied t) W y) W
     ∙ total-same W _ _ (λ k p. ap (λ b. cond b 1 0) (sym (corner-is W H t y s k p)))
 
-none-total : (n : ℕ) → total n (λ k. 0) ≡ 0
-unfolding total
-none-total zero = refl
-none-total (suc n) = omega (arith, none-total n)
-
 -- A ROW THAT IS NOT SCANNED HAS NO CORNER
 pub no-corner : (W H : ℕ) (t : List ℕ) (y : ℕ) → scanned H t y ≡ false → count W (λ x. corner W H t x y) ≡ 0
 unfolding corner
-no-corner W H t y s = total-same W _ (λ x. 0) (λ x l. rw (s, and-false)) ∙ none-total W
+no-corner W H t y s = count-none W (λ x. corner W H t x y) (λ x l. rw (s, and-false))

@@ -1,4 +1,4 @@
--- The list of a surface is its rows' entries one behind the other, and a row that is not scanned has none. Assumes nothing.
+-- The list of a surface is its rows' entries one behind the other; a row has at most W, and one that is not scanned has none. Assumes nothing.
 use mathlib.Core.Path.{_≡_, refl, sym, ap, _∙_, subst}
 use mathlib.Core.Logic.{inl, inr, ⊎-elim, _↔_}
 use mathlib.Core.Bool.{Bool, false}
@@ -133,7 +133,7 @@ module _ (occ : ℕ → ℕ → Bool) (W H : ℕ) where
       (λ a m. listed-mem a .1 (entries-are occ W H a .0 m))
       (λ a m. entries-are occ W H a .1 (listed-mem a .0 m))
 
-  -- a row's buffers hold no more than W entries
+  -- A ROW HAS AT MOST W ENTRIES
   pub row-few : (y : ℕ) → y < H → length (entriesIn occ W H y) ≤ W
   unfolding rectsIn
   row-few y h =

@@ -185,7 +185,7 @@ keep-le : {A : Type 0} (c : Bool) (a : A) (l : List A) → length (put c a l) �
 keep-le true a l = le-refl _
 keep-le false a l = omega arith
 
-pub leaving-le : (v e r : ℕ) (t : List Stair) → length (leaving v e r t) ≤ length t
+leaving-le : (v e r : ℕ) (t : List Stair) → length (leaving v e r t) ≤ length t
 unfolding leaving
 leaving-le v e r [] = le-refl 0
 leaving-le v e r (s ∷ t) = omega (arith, keep-le {A = Entry} (ltb v (s .high) && ltb (s .left) e) (record { left = s .left; right = r; high = s .high }) (leaving v e r t), leaving-le v e r t)

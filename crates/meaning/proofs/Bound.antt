@@ -46,7 +46,7 @@ module _ {A : Type 0} (key : A → ℕ) where
   abbrev at : ℕ → A → Bool
   at n a = eqb (key a) n
 
-  -- at most f k items with each key k
+  -- at most f k items with each key k: at most the sum of f in all
   by-keys : (n : ℕ) (f : ℕ → ℕ) (l : List A) → ((a : A) → List·Memᴰ a l → key a < n) → ((k : ℕ) → k < n → length (keep (at k) l) ≤ f k) → length l ≤ total n f
   unfolding total
   by-keys zero f [] h g = omega arith

@@ -20,7 +20,7 @@ pub used-few : (t : List ℕ) → usedSlots t ≤ slots t
 unfolding usedSlots
 used-few t = count-le (slots t) (usedSlot t)
 
--- ---- scanned rows: no more than there are rows, and one more than there are used slots
+-- ---- scanned rows: at most as many as there are rows, and one more than there are used slots
 
 pub scanned-rows-high : (H : ℕ) (t : List ℕ) → scannedRows H t ≤ H
 unfolding scannedRows

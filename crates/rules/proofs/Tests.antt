@@ -171,7 +171,7 @@ unfolding total
 total-same zero f g h = refl
 total-same (suc n) f g h = ap₂ _+_ (total-same n f g (λ k l. h k (omega arith))) (h n (omega arith))
 
-pub total-first : (n : ℕ) (f : ℕ → ℕ) → total (suc n) f ≡ f 0 + total n (λ k. f (suc k))
+total-first : (n : ℕ) (f : ℕ → ℕ) → total (suc n) f ≡ f 0 + total n (λ k. f (suc k))
 unfolding total
 total-first zero f = omega arith
 total-first (suc n) f = omega (arith, total-first n f)
@@ -262,12 +262,6 @@ pub getD-tab : {A : Type 0} (n k : ℕ) (f : ℕ → A) (d : A) → k < n → ge
 getD-tab n k f d h = getD-tabFrom 0 n k f d h ∙ ap f (let q : 0 + k ≡ k = omega arith in q)
 
 -- ---- keep
-
-module _ {A : Type 0} (p : A → Bool) where
-  pub keep-all : (l : List A) → ((a : A) → List·Memᴰ a l → p a ≡ true) → keep p l ≡ l
-  unfolding keep
-  keep-all [] h = refl
-  keep-all (x ∷ l) h = ap₂ (λ b m. put b x m) (h x (List·Memᴰ·head refl)) (keep-all l (λ a m. h a (List·Memᴰ·tail m)))
 
 module _ {A : Type 0} (p : A → Bool) where
   pub keep-mem : {a : A} (l : List A) → List·Memᴰ a l → p a ≡ true → List·Memᴰ a (keep p l)

@@ -1,4 +1,4 @@
--- Examples beside the worked figures, computed: what corners do not tell, and cases that A to I do not tell apart.
+-- Examples beside the worked figures, computed: what corners do not tell, the bound of order 1 met and not met, and cases that A to I do not tell apart.
 use mathlib.Core.Path.{_≡_, refl}
 use mathlib.Core.Bool.{Bool, true, not, _&&_}
 use mathlib.Core.List.{List, [], _∷_, _++_}
@@ -64,7 +64,7 @@ pub bound-needed : (list 2 2 (fresh 2 2 first) first (room 16) .code ≡ 0) × (
 unfolding caseHolds
 bound-needed = (refl, refl)
 
--- IT IS A BOUND AND NO COUNT: 1×1 with it has no entry and one scanned row; the two surfaces above have two entries each, and three scanned rows there, two here
+-- IT IS A BOUND AND NO COUNT: 1×1 with it has no entry and one scanned row; `two` has two entries and three scanned rows, and `one`, with the same list and weights, two scanned rows
 pub bound-not-met : (length (entries (occupied first) 1 1) ≡ 0) × (scannedRows 1 first ≡ 1) × (length (entries (occupied two) 2 3) ≡ 2) × (scannedRows 3 two ≡ 3) × (scannedRows 3 one ≡ 2)
 unfolding caseHolds
 bound-not-met = (refl, refl, refl, refl, refl)
