@@ -1,7 +1,7 @@
--- THE THREE DEMANDS AND THE ORDERS ON THE EXPORTED CALLS: the file to open first. Each statement stands under the sentence of document 00 or 02 that it answers. Its hypotheses are the contracts that the four
--- exported functions carry in their source: HostClearedBy, r ≡ hostCheck .., HostRanBy, HostListedBy (rules/specs/Host). W and H are the sizes, l is what the host lends of a surface, the
--- bytes of its weights and its table; r is the number returned; a prime marks what a buffer holds afterwards. A RunCall c is a call of run: what it was lent, returned and left, and its
--- contract (demands/specs/Chain). The proofs stand in the files that the `use` lines name. No axiom is used.
+-- THE THREE DEMANDS AND THE ORDERS ON THE EXPORTED CALLS: the file to open first. Each statement stands under the sentence of document 00 or 02 that it answers. Its hypotheses are the
+-- contracts that the four exported functions carry in their source: HostClearedBy, r ≡ hostCheck .., HostRanBy, HostListedBy (rules/specs/Host). W and H are the sizes, l is what the host
+-- lends of a surface, the bytes of its weights and its table; r is the number returned; a prime marks what a buffer holds afterwards. A RunCall c is a call of run: what it was lent, returned
+-- and left, and its contract (demands/specs/Chain). The proofs stand in the files that the `use` lines name. No axiom is used.
 use mathlib.Core.Path.{_≡_}
 use mathlib.Core.Bool.{true, false, not, cond, _&&_}
 use mathlib.Core.Logic.{_↔_}

@@ -1,5 +1,6 @@
 -- EXAMPLES, computed: the history and the frame in worked cases G and H and in the two cases of rules/specs/Examples with a removal and an exchange. After
--- each request: the modules that the history says are placed, the weights worked out afresh from them, and the cells that the request may have changed.
+-- each request: the modules that the history says are placed, the weights worked out afresh from them, and the cells that the request may have changed. Last,
+-- the bottom rows that the records of a room tell.
 use mathlib.Core.Path.{_≡_, refl}
 use mathlib.Core.Bool.{Bool, not, _&&_, _||_}
 use mathlib.Core.List.{List, [], _∷_, _++_}
@@ -9,12 +10,14 @@ use lib.IntN.{ℤ}
 use lib.ListN.{replicate}
 use Rattle.rules.specs.Tests.{every, tab, keep}
 use Rattle.rules.specs.Surface.{rect, rectOf, occupied}
+use Rattle.rules.specs.Empties.{entryRecords}
 use Rattle.rules.specs.Requests.{needsOld}
 use Rattle.rules.specs.Blocks.{State, started, requests, request, after}
 use Rattle.rules.specs.Calls.{clearedWeights}
 use Rattle.rules.specs.Figures.{caseHolds, eight, e, o}
 use Rattle.rules.specs.declared.Rect.{Rect}
 use Rattle.demands.specs.Frame.{oldSlot, bare}
+use Rattle.demands.specs.Listed.{bottomIn}
 use Rattle.demands.specs.History.{Module, moduleAt, leastUnused, slotIn, placeIn, taken, remains, history, historyWeight}
 
 -- ---- the frame as a test (that it says what `MayChange` says is `may-change-is` in proofs/FrameTest)
@@ -187,3 +190,12 @@ pub slots-told : tellings storySlots
     ∷ []
 unfolding caseHolds history leastUnused slotIn
 slots-told = refl
+
+-- ---- the bottom rows in a room: three records, and bytes behind them
+
+abbrev records : List ℕ
+records = entryRecords (rect 0 0 3 1 ∷ rect 4 1 1 3 ∷ rect 0 2 6 5 ∷ []) ++ (9 ∷ 9 ∷ [])
+
+pub bottoms-told : tab 3 (bottomIn records) ≡ 0 ∷ 3 ∷ 6 ∷ []
+unfolding caseHolds
+bottoms-told = refl

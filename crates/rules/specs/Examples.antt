@@ -49,31 +49,31 @@ other-corners = (refl, refl)
 -- ---- "the list never has more than W entries for each scanned row, so W times the number of scanned rows is always enough room" (order 1)
 
 -- one 1×1 module at (0, 0), which adds no scanned row
-abbrev first : List ℕ
-first = recordOf 1 0 (rect 0 0 1 1)
+abbrev topLeft : List ℕ
+topLeft = recordOf 1 0 (rect 0 0 1 1)
 
 abbrev room : ℕ → List ℕ
 room n = replicate n 9
 
 -- 2×2 with it: THE BOUND IS MET, two entries and one scanned row; 16 bytes of room do, 15 do not
-pub bound-met : (scannedRows 2 first ≡ 1) × (length (entries (occupied first) 2 2) ≡ 2 * scannedRows 2 first)
+pub bound-met : (scannedRows 2 topLeft ≡ 1) × (length (entries (occupied topLeft) 2 2) ≡ 2 * scannedRows 2 topLeft)
 unfolding caseHolds
 bound-met = (refl, refl)
 
-pub bound-needed : (list 2 2 (fresh 2 2 first) first (room 16) .code ≡ 0) × (list 2 2 (fresh 2 2 first) first (room 15) .code ≡ 7)
+pub bound-needed : (list 2 2 (fresh 2 2 topLeft) topLeft (room 16) .code ≡ 0) × (list 2 2 (fresh 2 2 topLeft) topLeft (room 15) .code ≡ 7)
 unfolding caseHolds
 bound-needed = (refl, refl)
 
 -- IT IS A BOUND AND NO COUNT: 1×1 with it has no entry and one scanned row; `two` has two entries and three scanned rows, and `one`, with the same list and weights, two scanned rows
-pub bound-not-met : (length (entries (occupied first) 1 1) ≡ 0) × (scannedRows 1 first ≡ 1) × (length (entries (occupied two) 2 3) ≡ 2) × (scannedRows 3 two ≡ 3) × (scannedRows 3 one ≡ 2)
+pub bound-not-met : (length (entries (occupied topLeft) 1 1) ≡ 0) × (scannedRows 1 topLeft ≡ 1) × (length (entries (occupied two) 2 3) ≡ 2) × (scannedRows 3 two ≡ 3) × (scannedRows 3 one ≡ 2)
 unfolding caseHolds
 bound-not-met = (refl, refl, refl, refl, refl)
 
 -- A ROW IS COUNTED ONCE, however many modules begin below it: 3×2 with modules at (0, 1) and (2, 1)
-abbrev side : List ℕ
-side = recordOf 1 0 (rect 0 1 1 1) ++ recordOf 2 0 (rect 2 1 1 1)
+abbrev sideBySide : List ℕ
+sideBySide = recordOf 1 0 (rect 0 1 1 1) ++ recordOf 2 0 (rect 2 1 1 1)
 
-pub row-counted-once : scannedRows 2 side ≡ 2
+pub row-counted-once : scannedRows 2 sideBySide ≡ 2
 unfolding caseHolds
 row-counted-once = refl
 
