@@ -6,7 +6,8 @@
  *   bench times            for each row the least of many times, freelist to C
  *   bench compare SEED N   N rounds of drawn surfaces and blocks, both compared
  *
- * Exit status 1 when results or bytes differ. */
+ * Exit status 1 when results or bytes differ, or compare met no hard block. A block
+ * is one of requests; a hard block is "a block" of the fabric, kind 1. */
 #define _POSIX_C_SOURCE 199309L
 #include "plain.h"
 #include "../include/freelist.h"
@@ -362,6 +363,7 @@ static void add_small_blocks(unsigned side)
     add_block_of("run, 1 place refused (20)", l, 1, request(1, 0, 999, side / 2, side / 2, 0, 0));
     add_block_of("run, 1 remove", l, 1, request(2, 0, 1, 0, 0, 0, 0));
     add_block_of("run, 1 pin 1×1", l, 1, request(3, 0, 999, 1, 1, x, y));
+    add_block_of("run, 1 set 1×1", l, 1, request(6, 0, 999, 1, 1, x, y));
 }
 
 static void make_all(void)
@@ -385,6 +387,7 @@ static void make_all(void)
 /* ---- the same result and bytes --------------------------------------------------- */
 
 static unsigned long differ;
+static struct lent of_plain, of_library; /* what each left, last */
 
 static int is_same(const struct lent *a, const struct lent *b, uint64_t ra, uint64_t rb)
 {
@@ -397,10 +400,9 @@ static int is_same(const struct lent *a, const struct lent *b, uint64_t ra, uint
 /* Both once; the results and the bytes compared. */
 static uint64_t both_on(const struct lent *l, const char *name)
 {
-    static struct lent a, b;
-    a = b = *l;
-    uint64_t ra = on(PLAIN, &a), rb = on(LIBRARY, &b);
-    if (!is_same(&a, &b, ra, rb)) {
+    of_plain = of_library = *l;
+    uint64_t ra = on(PLAIN, &of_plain), rb = on(LIBRARY, &of_library);
+    if (!is_same(&of_plain, &of_library, ra, rb)) {
         if (differ++ == 0)
             fprintf(stderr, "bench: differs: %s, %u×%u: %llx %llx\n", name, l->w, l->h,
                     (unsigned long long)ra, (unsigned long long)rb);
@@ -541,7 +543,7 @@ static int times(void)
 
 /* ---- compare ----------------------------------------------------------------------------- */
 
-static unsigned long compared;
+static unsigned long compared, sets, kept; /* operation 6 accepted, 23 answered */
 
 static void compare_call(struct lent *l, unsigned call)
 {
@@ -550,18 +552,48 @@ static void compare_call(struct lent *l, unsigned call)
     compared++;
 }
 
-static uint64_t some_request(void)
+/* Used slots become hard blocks; now and then one, used or free, has a kind and a
+ * spare byte beside those that stand. */
+static void draw_kinds(struct lent *l)
 {
-    unsigned op = one_in(30) ? any_byte() : from_to(1, 4), rule = one_in(30) ? any_byte() : below(3);
-    unsigned id = one_in(40) ? 0 : from_to(1, 40), w = one_in(20) ? any_byte() : from_to(1, W / 2 + 1);
+    static const uint8_t beside[][2] = { { 1, 0 }, { 2, 0 }, { 255, 0 }, { 0, 1 }, { 1, 1 } };
+    unsigned slot = below(8), k = below(5);
+    for (unsigned i = 0; i < sizeof l->table; i += 8)
+        if (is_used(l->table + i) && l->table[i + 6] == 0 && one_in(4)) /* a damaged byte stays */
+            l->table[i + 6] = 1;
+    if (one_in(8))
+        memcpy(l->table + 8 * slot + 6, beside[k], 2);
+}
+
+/* One of some slot, which may be free, or any. */
+static unsigned some_id(const struct lent *l)
+{
+    unsigned id = one_in(40) ? 0 : from_to(1, 40), slot = below(one_in(2) ? 4 : 16);
+    return one_in(2) ? id : l->table[8 * slot] + 256u * l->table[8 * slot + 1];
+}
+
+static uint64_t some_request(const struct lent *l)
+{
+    unsigned op = one_in(30) ? any_byte() : from_to(1, 6), rule = one_in(30) ? any_byte() : below(3);
+    unsigned id = some_id(l), w = one_in(20) ? any_byte() : from_to(1, W / 2 + 1);
     unsigned h = one_in(20) ? any_byte() : from_to(1, H / 2 + 1), x = below(W), y = below(H);
+    unsigned has_place = op == 3 || op == 6;
     if (op == 2 && !one_in(20))
         rule = w = h = 0;
-    if (op == 3 && !one_in(20))
+    if (has_place && !one_in(20))
         rule = 0;
-    if (op != 3 && !one_in(30))
+    if (!has_place && !one_in(30))
         x = y = 0;
     return request(op, rule, id, w, h, x, y);
+}
+
+/* The answers of the last run, so that draws which miss hard blocks are seen. */
+static void count_hard(void)
+{
+    for (unsigned i = 0; i < of_plain.requests_len; i += 8) {
+        sets += of_plain.answers[i] == 0 && of_plain.answers[i + 1] == 6;
+        kept += of_plain.answers[i] == 23;
+    }
 }
 
 /* Weights and table drawn; check, list with rooms enough and too short, a block. */
@@ -574,6 +606,7 @@ static void compare_surface(void)
     memset(l.table, 0, sizeof l.table);
     memcpy(l.weights, c.lent[WEIGHTS].byte, c.lent[WEIGHTS].len);
     memcpy(l.table, c.lent[TABLE].byte, c.lent[TABLE].len);
+    draw_kinds(&l);
     memset(l.room, 0xa5, sizeof l.room);
     memset(l.answers, 0xa5, sizeof l.answers);
     compare_call(&l, CHECK);
@@ -583,10 +616,11 @@ static void compare_surface(void)
     compare_call(&l, LIST);
     l.requests_len = 8 * from_to(0, 40);
     for (unsigned i = 0; i < l.requests_len; i += 8) {
-        uint64_t q = some_request();
+        uint64_t q = some_request(&l);
         memcpy(l.requests + i, &q, 8);
     }
     compare_call(&l, RUN);
+    count_hard();
     compare_call(&l, CLEAR);
 }
 
@@ -603,8 +637,8 @@ static int compare(uint64_t seed, unsigned long n)
             compare_surface();
         }
     }
-    printf("bench: %lu calls compared, %lu differ\n", compared, differ);
-    return differ != 0;
+    printf("bench: %lu calls compared, %lu differ; hard blocks set: %lu, code 23: %lu\n", compared, differ, sets, kept);
+    return differ != 0 || sets == 0 || kept == 0;
 }
 
 int main(int argc, char **argv)

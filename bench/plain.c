@@ -9,7 +9,8 @@
 #include <string.h>
 
 enum { SIDE = 64, SLOTS = 256, BLOCK = 512, RECORD = 8 };
-enum { PLACE = 1, REMOVE = 2, PIN = 3, EXCHANGE = 4 };
+enum { PLACE = 1, REMOVE = 2, PIN = 3, EXCHANGE = 4, SET = 6 };
+enum { MODULE = 0, HARD = 1 };          /* kinds: "0 a module, 1 a block" of the fabric */
 
 static inline int get16(const uint8_t *p)
 {
@@ -53,7 +54,7 @@ struct surface {
     uint8_t tops[SIDE];                 /* modules that have their top row there */
 };
 
-/* Bytes 0 and 1 are the id, then x, y, w, h, then two zero bytes. */
+/* Bytes 0 and 1 are the id, then x, y, w, h, the kind and a zero byte. */
 static inline unsigned id_of(uint64_t slot) { return slot & 0xffff; }
 
 static inline struct module module_of(uint64_t slot)
@@ -62,9 +63,10 @@ static inline struct module module_of(uint64_t slot)
     return m;
 }
 
-static inline uint64_t slot_of(unsigned id, struct module m)
+static inline uint64_t slot_of(unsigned id, struct module m, unsigned kind)
 {
-    return id | m.x << 16 | (uint64_t)m.y << 24 | (uint64_t)m.w << 32 | (uint64_t)m.h << 40;
+    return id | m.x << 16 | (uint64_t)m.y << 24 | (uint64_t)m.w << 32 | (uint64_t)m.h << 40
+        | (uint64_t)kind << 48;
 }
 
 static inline uint64_t columns_of(struct module m) { return ~(uint64_t)0 >> (SIDE - m.w) << m.x; }
@@ -117,13 +119,13 @@ static void lend(struct surface *s, uint64_t w, uint64_t h, const uint8_t *weigh
 
 /* ---- a surface stands ---------------------------------------------------- */
 
-/* "has an id, w and h of at least 1, x + w <= W, y + h <= H and zero spare
- * bytes" */
+/* "has an id, w and h of at least 1, x + w <= W, y + h <= H", and "kinds 0 and
+ * 1 and every other spare byte zero": bytes 6 and 7, low byte first, are 0 or 1. */
 static inline int slot_stands(const struct surface *s, uint64_t slot)
 {
     struct module m = module_of(slot);
     return id_of(slot) != 0 && m.w != 0 && m.h != 0
-        && m.x + m.w <= s->W && m.y + m.h <= s->H && slot >> 48 == 0;
+        && m.x + m.w <= s->W && m.y + m.h <= s->H && slot >> 48 <= HARD;
 }
 
 /* The used slots in turn. Only the words of the ids that occur are cleared. */
@@ -413,14 +415,15 @@ static inline struct request request_of(uint64_t r)
 }
 
 static inline uint64_t slot_at(const struct surface *s, unsigned i) { return get64(s->table + RECORD * i); }
+static inline unsigned kind_at(const struct surface *s, unsigned i) { return s->table[RECORD * i + 6]; }
 
 /* The slot with this id, or top. */
 static unsigned find(const struct surface *s, unsigned id)
 {
-    unsigned i = 0;
-    while (i < s->top && id_of(slot_at(s, i)) != id)
-        i++;
-    return i;
+    const uint8_t *slot = s->table, *end = slot + RECORD * s->top;
+    while (slot != end && id_of(get64(slot)) != id)
+        slot += RECORD;
+    return (unsigned)(slot - s->table) / RECORD;
 }
 
 /* The lowest free slot, or slots. */
@@ -434,29 +437,32 @@ static unsigned free_slot(const struct surface *s)
     return i;
 }
 
-static void enter(struct surface *s, unsigned slot, unsigned id, struct module m)
+static void enter(struct surface *s, unsigned slot, unsigned id, struct module m, unsigned kind)
 {
     lay(s, m);
-    put64(s->table + RECORD * slot, slot_of(id, m));
+    put64(s->table + RECORD * slot, slot_of(id, m, kind));
     s->used++;
     if (slot >= s->top)
         s->top = slot + 1;
 }
 
+/* Operation 6 "takes the fields of a pin". */
+static inline int has_place(struct request q) { return q.op == PIN || q.op == SET; }
+
 /* The bytes that must be zero, all together. */
 static inline unsigned spare_bytes(struct request q)
 {
-    if (q.op == PIN)
+    if (has_place(q))
         return q.rule;
     return q.op == REMOVE ? q.rule | q.w | q.h | q.b6 | q.b7 : q.b6 | q.b7;
 }
 
-/* Codes 11 to 19. The slot is that of the id, or for a new module the lowest free
- * one. */
+/* Codes 11 to 19, and 23 behind 16. The id is searched once: the slot is its, or
+ * for a new module the lowest free one. */
 static inline unsigned refusal(const struct surface *s, struct request q, unsigned *slot)
 {
-    int by_rule = q.op == PLACE || q.op == EXCHANGE, is_new = q.op == PLACE || q.op == PIN;
-    if (q.op < PLACE || q.op > EXCHANGE)
+    int by_rule = q.op == PLACE || q.op == EXCHANGE, is_new = q.op == PLACE || has_place(q);
+    if (!by_rule && !has_place(q) && q.op != REMOVE)
         return 11;
     if (spare_bytes(q) != 0)
         return 12;
@@ -467,9 +473,11 @@ static inline unsigned refusal(const struct surface *s, struct request q, unsign
     *slot = find(s, q.id);
     if (is_new != (*slot == s->top))
         return is_new ? 15 : 16;
+    if (!is_new && kind_at(s, *slot) == HARD)
+        return 23;
     if (q.op != REMOVE && (q.w == 0 || q.h == 0))
         return 17;
-    if (q.op == PIN && (q.b6 + q.w > s->W || q.b7 + q.h > s->H))
+    if (has_place(q) && (q.b6 + q.w > s->W || q.b7 + q.h > s->H))
         return 18;
     if (is_new)
         *slot = free_slot(s);
@@ -480,7 +488,7 @@ static unsigned place(struct surface *s, unsigned slot, struct request q, struct
 {
     if (!choose(s, q.rule, q.w, q.h, m))
         return 20;
-    enter(s, slot, q.id, *m);
+    enter(s, slot, q.id, *m, MODULE);
     return 0;
 }
 
@@ -495,12 +503,13 @@ static unsigned remove_module(struct surface *s, unsigned slot, struct module *m
     return 0;
 }
 
+/* A pin, or operation 6, which "sets a block". */
 static unsigned pin(struct surface *s, unsigned slot, struct request q, struct module *m)
 {
     *m = (struct module){ q.b6, q.b7, q.w, q.h };
     if (!is_empty(s, *m))
         return 21;
-    enter(s, slot, q.id, *m);
+    enter(s, slot, q.id, *m, q.op == SET ? HARD : MODULE);
     return 0;
 }
 
@@ -515,7 +524,7 @@ static unsigned exchange(struct surface *s, unsigned slot, struct request q, str
         return 20;
     }
     lay(s, *m);
-    put64(s->table + RECORD * slot, slot_of(q.id, *m));
+    put64(s->table + RECORD * slot, slot_of(q.id, *m, MODULE));
     return 0;
 }
 
@@ -527,8 +536,8 @@ static inline unsigned serve(struct surface *s, struct request q, struct module 
     switch (q.op) {
     case PLACE: return place(s, slot, q, m);
     case REMOVE: return remove_module(s, slot, m);
-    case PIN: return pin(s, slot, q, m);
-    default: return exchange(s, slot, q, m);
+    case EXCHANGE: return exchange(s, slot, q, m);
+    default: return pin(s, slot, q, m);
     }
 }
 

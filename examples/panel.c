@@ -1,5 +1,5 @@
 /* A front panel that shows what is free on a surface of 16 by 12 cells and has no memory for a
- * list of W*H entries. It lends exactly 8*W bytes for each scanned row. After a clear and blocks
+ * list of W*H entries. It lends exactly 8*W bytes for each scanned row. After a clear and runs
  * that were not refused that is always enough: theorem chain-room-enough; and there is at most one
  * scanned row more than there are used slots: theorem scanned-rows-few, by which the panel's memory
  * is sized (crates/assured/proofs/Assured.antt, crates/meaning/proofs/Theorems.antt). */
@@ -13,9 +13,9 @@ static uint8_t weights[2 * W * H];
 static uint8_t table[8 * SLOTS];
 static uint8_t panel[8 * W * (SLOTS + 1)];
 
-/* Bit y is set when row y is scanned: "when y = H - 1 or some module has its top row at y + 1".
- * A bit is set once, however many modules have that top row. A module at row 0 has no row above
- * it, and a free slot, being all zero, reads so too. */
+/* Bit y is set when row y is scanned: "when y = H - 1 or some module has its top row at y + 1";
+ * a hard block counts as a module. A bit is set once, however many have that top row. One at row 0
+ * has no row above it, and a free slot, being all zero, reads so too. */
 static uint64_t scanned_rows(void)
 {
     uint64_t rows = (uint64_t)1 << (H - 1);

@@ -21,10 +21,15 @@
  *
  * table     1 to 256 slots of 8 bytes; all zero is a free slot.
  *
- *               byte    0    1    2   3   4   5   6   7
- *                     +---------+---+---+---+---+---+---+
- *                     |   id    | x | y | w | h | 0 | 0 |   id 1 to 65535
- *                     +---------+---+---+---+---+---+---+
+ *               byte    0    1    2   3   4   5    6    7
+ *                     +---------+---+---+---+---+------+---+
+ *                     |   id    | x | y | w | h | kind | 0 |   id 1 to 65535
+ *                     +---------+---+---+---+---+------+---+
+ *
+ *           kind 0 is a module, kind 1 a hard block: a processor or memory block
+ *           of the fabric. What is said here of modules, their cells, weights, rows
+ *           and ids holds of hard blocks too; but no request moves or removes one.
+ *           It is removed only by freelist_clear.
  *
  * requests  0 to 512 requests of 8 bytes.
  *
@@ -38,6 +43,9 @@
  *           op 3 pin        at x = a, y = b; rule = 0
  *           op 4 exchange   the module with this id for one of a new size, by
  *                           rule; a = b = 0. It keeps its slot.
+ *           op 6 set        a hard block, at x = a, y = b; rule = 0
+ *
+ *           Place, pin and set take the lowest free slot.
  *
  *           A rule chooses among the entries of the list with room for the
  *           module: 0 the first; 1 the one with least area to spare; 2 the least
@@ -51,8 +59,8 @@
  *                     |code | op |   id    | x | y | w | h |
  *                     +-----+----+---------+---+---+---+---+
  *
- *           op and id as they came; x, y, w, h of the new module or of the one
- *           removed, four zeros where the request is refused.
+ *           op and id as they came; x, y, w, h of the new module or hard block or
+ *           of the module removed, four zeros where the request is refused.
  *
  * room      8 bytes for each entry of the list or more. For a surface that stands
  *           8*w bytes for each scanned row are always enough, and so are 8*w*h and
@@ -83,24 +91,26 @@
  *       7   room is shorter than 8 bytes for each entry     list
  *
  * A surface stands when each slot is free or has an id, w and h of at least 1,
- * lies on the surface and has zero spare bytes; no two modules have the same id
- * or share a cell; and every weight is as said above. freelist_clear makes one,
- * and freelist_run leaves one.
+ * lies on the surface, has kind 0 or 1 and byte 7 zero; no two used slots have the
+ * same id or share a cell; and every weight is as said above. freelist_clear makes
+ * one, and freelist_run leaves one.
  *
- * A request that is refused changes neither weights nor table, and the block
- * goes on. The code in its answer, the lowest that applies:
+ * A request that is refused changes neither weights nor table, and the next one
+ * runs. The code in its answer is the first of this list that applies (23 stands
+ * behind 16):
  *
- *      11   op is not 1..4
+ *      11   op is not 1, 2, 3, 4 or 6
  *      12   a byte that must be 0 is not
  *      13   rule over 2                                     place, exchange
  *      14   id 0
- *      15   id is placed already                            place, pin
+ *      15   id is placed already                            place, pin, set
  *      16   id is not placed                                remove, exchange
- *      17   w or h is 0                                     place, pin, exchange
- *      18   x + w > W or y + h > H                          pin
- *      19   no free slot                                    place, pin
+ *      23   id is that of a hard block                      remove, exchange
+ *      17   w or h is 0                                     all but remove
+ *      18   x + w > W or y + h > H                          pin, set
+ *      19   no free slot                                    place, pin, set
  *      20   no position has all its cells empty             place, exchange
- *      21   a cell of the place is occupied                 pin
+ *      21   a cell of the place is occupied                 pin, set
  *
  * (22, a rule's place with an occupied cell, is proved never to be given.)
  */
@@ -118,13 +128,14 @@ static inline unsigned freelist_code(uint64_t result) { return (unsigned)(result
 static inline unsigned freelist_first(uint64_t result) { return (unsigned)(result >> 16 & 0xffffu); }
 static inline unsigned freelist_second(uint64_t result) { return (unsigned)(result >> 32 & 0xffffu); }
 
-/* Frees all slots and gives cell (x, y) weight y + 1. No counts.
- * Writes to all of weights and table. */
+/* Frees all slots, those of hard blocks too, and gives cell (x, y) weight y + 1.
+ * No counts. Writes to all of weights and table. */
 uint64_t freelist_clear(uint64_t w, uint64_t h,
                         uint8_t *weights, uint64_t weights_len,
                         uint8_t *table, uint64_t table_len);
 
-/* Examines the surface. First count: used slots. Writes nothing. */
+/* Examines the surface. First count: used slots, of modules and of hard blocks.
+ * Writes nothing. */
 uint64_t freelist_check(uint64_t w, uint64_t h,
                         const uint8_t *weights, uint64_t weights_len,
                         const uint8_t *table, uint64_t table_len);

@@ -27,14 +27,16 @@ static struct row calls[CALLS] = {
 
 static const char *const buffers[BUFFERS] = { "weights", "table", "requests", "answers", "room" };
 
-/* By its number; row 0 is every operation that has no row. Code 22 is in no row:
- * on a surface that stands it is never given. */
+/* By its number; row 0 is every operation that has no row: 5, the program's clear,
+ * is none in a block of requests. Code 22 is in no row: on a surface that stands it
+ * is never given. */
 static struct row operations[] = {
     [0] = { .name = "no operation", .may = GIVES(11) },
     [1] = { .name = "place", .may = GIVES(0, 12, 13, 14, 15, 17, 19, 20) },
-    [2] = { .name = "remove", .may = GIVES(0, 12, 14, 16) },
+    [2] = { .name = "remove", .may = GIVES(0, 12, 14, 16, 23) },
     [3] = { .name = "pin", .may = GIVES(0, 12, 14, 15, 17, 18, 19, 21) },
-    [4] = { .name = "exchange", .may = GIVES(0, 12, 13, 14, 16, 17, 20) } };
+    [4] = { .name = "exchange", .may = GIVES(0, 12, 13, 14, 16, 23, 17, 20) },
+    [6] = { .name = "set", .may = GIVES(0, 12, 14, 15, 17, 18, 19, 21) } };
 
 enum { OPERATIONS = sizeof operations / sizeof operations[0] };
 
@@ -51,10 +53,12 @@ static void give(struct row *r, unsigned code) { r->given[code < CODES ? code : 
 
 void count_result(unsigned call, uint64_t result) { give(&calls[call], part_of(result, 0)); }
 
+static int has_row(unsigned operation) { return operation < OPERATIONS && operations[operation].name != NULL; }
+
 void count_answers(const uint8_t *answers, uint64_t len)
 {
     for (uint64_t i = 0; i < len; i += 8)
-        give(&operations[answers[i + 1] < OPERATIONS ? answers[i + 1] : 0], answers[i]);
+        give(&operations[has_row(answers[i + 1]) ? answers[i + 1] : 0], answers[i]);
 }
 
 static void print_row(const struct row *r)
@@ -94,7 +98,8 @@ void print_codes(void)
     for (unsigned i = 0; i < CALLS; i++)
         print_row(&calls[i]);
     for (unsigned i = 0; i < OPERATIONS; i++)
-        print_row(&operations[i]);
+        if (has_row(i))
+            print_row(&operations[i]);
 }
 
 unsigned codes_amiss(void)
@@ -103,6 +108,7 @@ unsigned codes_amiss(void)
     for (unsigned i = 0; i < CALLS; i++)
         n += amiss(&calls[i]);
     for (unsigned i = 0; i < OPERATIONS; i++)
-        n += amiss(&operations[i]);
+        if (has_row(i))
+            n += amiss(&operations[i]);
     return n;
 }

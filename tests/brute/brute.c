@@ -15,12 +15,17 @@ enum {
     RECORD = 8
 };
 
-enum { PLACE = 1, REMOVE = 2, PIN = 3, EXCHANGE = 4 };
+enum { PLACE = 1, REMOVE = 2, PIN = 3, EXCHANGE = 4, SET = 6 };
+
+/* "Byte 6 of a table record becomes its kind: 0 a module, 1 a block" (order 2).
+ * A block of the fabric is called hard here: a block is one of requests. */
+enum { MODULE = 0, HARD = 1 };
 
 /* "A rectangle is (x, y, w, h), its top left cell and its size." */
 struct rectangle { unsigned x, y, w, h; };
 
-/* What the table says, read afresh. */
+/* What the table says, read afresh. "Blocks count as modules for cells, weights,
+ * scanned rows and ids" (order 2): they are among the modules. */
 struct surface {
     unsigned W, H;
     unsigned count;                         /* used slots */
@@ -71,8 +76,8 @@ static void set_weight(uint8_t *weights, unsigned number, int weight)
     weights[2 * number + 1] = (uint8_t)(u / 256);
 }
 
-/* "Bytes 0 and 1 are the id, low byte first, then x, y, w, h, then two zero
- * bytes." */
+/* "Bytes 0 and 1 are the id, low byte first, then x, y, w, h", then the kind and
+ * a zero byte. */
 static unsigned slot_id(const uint8_t *slot)
 {
     return slot[0] + 256u * slot[1];
@@ -84,6 +89,11 @@ static struct rectangle slot_module(const uint8_t *slot)
     return m;
 }
 
+static int slot_is_hard(const uint8_t *slot)
+{
+    return slot[6] == HARD;
+}
+
 /* An id, low byte first, then x, y, w, h: what a slot begins with, and what an
  * answer has behind its code and operation. */
 static void put_module(uint8_t *to, unsigned id, struct rectangle m)
@@ -93,10 +103,10 @@ static void put_module(uint8_t *to, unsigned id, struct rectangle m)
         to[i] = (uint8_t)bytes[i];
 }
 
-static void write_slot(uint8_t *slot, unsigned id, struct rectangle m)
+static void write_slot(uint8_t *slot, unsigned id, struct rectangle m, unsigned kind)
 {
     put_module(slot, id, m);
-    slot[6] = 0;
+    slot[6] = (uint8_t)kind;
     slot[7] = 0;
 }
 
@@ -200,6 +210,13 @@ static void write_weights(const struct surface *s, uint8_t *weights)
 
 /* ---- a surface stands ------------------------------------------------- */
 
+/* "A surface stands with kinds 0 and 1 and every other spare byte zero"
+ * (order 2). */
+static int spare_is_sound(const uint8_t *slot)
+{
+    return (slot[6] == MODULE || slot[6] == HARD) && slot[7] == 0;
+}
+
 /* "every slot is free or has an id, w and h of at least 1, x + w <= W,
  * y + h <= H and zero spare bytes" */
 static int slot_is_sound(unsigned W, unsigned H, const uint8_t *slot)
@@ -208,7 +225,7 @@ static int slot_is_sound(unsigned W, unsigned H, const uint8_t *slot)
     if (slot_is_free(slot))
         return 1;
     return slot_id(slot) != 0 && m.w >= 1 && m.h >= 1
-        && m.x + m.w <= W && m.y + m.h <= H && slot[6] == 0 && slot[7] == 0;
+        && m.x + m.w <= W && m.y + m.h <= H && spare_is_sound(slot);
 }
 
 static int slots_are_sound(unsigned W, unsigned H,
@@ -441,8 +458,15 @@ static unsigned slot_of(const uint8_t *table, unsigned slots, unsigned id)
     return slots;
 }
 
-/* "Place and pin use the lowest free slot": it, or slots when there is
- * none. */
+/* "New operation 6 takes the fields of a pin and sets a block, with a pin's
+ * refusals in the same order" (order 2). */
+static int says_where(const struct request *q)
+{
+    return q->operation == PIN || q->operation == SET;
+}
+
+/* "Place and pin use the lowest free slot", and a set as a pin: it, or slots
+ * when there is none. */
 static unsigned lowest_free(const uint8_t *table, unsigned slots)
 {
     for (unsigned i = 0; i < slots; i++)
@@ -455,7 +479,7 @@ static unsigned lowest_free(const uint8_t *table, unsigned slots)
  * zero. Elsewhere bytes 6 and 7 are zero." */
 static int zero_byte_is_not(const struct request *q)
 {
-    if (q->operation == PIN)
+    if (says_where(q))
         return q->rule != 0;
     if (q->byte6 != 0 || q->byte7 != 0)
         return 1;
@@ -552,18 +576,20 @@ static unsigned slot_for(const uint8_t *table, unsigned slots,
     return lowest_free(table, slots);
 }
 
-/* The table of request codes, from the top; "lowest first". Code 0 leaves in
- * j the slot and the place. */
+/* The table of request codes, from the top, the first that applies: "lowest
+ * first", but "23, remove or exchange of a block, follows 16" (order 2). Code 0
+ * leaves in j the slot and the place. */
 static unsigned judge(unsigned W, unsigned H, const uint8_t *table,
                       unsigned slots, const struct request *q, struct judged *j)
 {
     unsigned op = q->operation;
     int by_rule = op == PLACE || op == EXCHANGE;
-    int fresh = op == PLACE || op == PIN;
+    int at_place = says_where(q);
+    int fresh = op == PLACE || at_place;
     struct rectangle pinned = { q->byte6, q->byte7, q->w, q->h };
 
-    /* "11: operation not 1..4" */
-    if (op < PLACE || op > EXCHANGE)
+    /* "11: operation not 1..4"; "operation 6 no longer gives 11" */
+    if ((op < PLACE || op > EXCHANGE) && op != SET)
         return 11;
     /* "12: a byte that must be zero is not" (all) */
     if (zero_byte_is_not(q))
@@ -574,19 +600,22 @@ static unsigned judge(unsigned W, unsigned H, const uint8_t *table,
     /* "14: id 0" (all) */
     if (q->id == 0)
         return 14;
-    /* "15: id already placed" (1, 3) */
+    /* "15: id already placed" (1, 3, 6) */
     if (fresh && slot_of(table, slots, q->id) < slots)
         return 15;
     /* "16: id not placed" (2, 4) */
     if (!fresh && slot_of(table, slots, q->id) == slots)
         return 16;
-    /* "17: w or h is 0" (1, 3, 4) */
+    /* "23, remove or exchange of a block" (2, 4) */
+    if (!fresh && slot_is_hard(table + RECORD * slot_of(table, slots, q->id)))
+        return 23;
+    /* "17: w or h is 0" (1, 3, 4, 6) */
     if (op != REMOVE && (q->w == 0 || q->h == 0))
         return 17;
-    /* "18: x + w > W or y + h > H" (3) */
-    if (op == PIN && (pinned.x + pinned.w > W || pinned.y + pinned.h > H))
+    /* "18: x + w > W or y + h > H" (3, 6) */
+    if (at_place && (pinned.x + pinned.w > W || pinned.y + pinned.h > H))
         return 18;
-    /* "19: no free slot" (1, 3) */
+    /* "19: no free slot" (1, 3, 6) */
     if (fresh && lowest_free(table, slots) == slots)
         return 19;
 
@@ -594,14 +623,14 @@ static unsigned judge(unsigned W, unsigned H, const uint8_t *table,
     j->slot = slot_for(table, slots, q);
     if (op == REMOVE)
         j->place = slot_module(table + RECORD * j->slot);
-    if (op == PIN)
+    if (at_place)
         j->place = pinned;
 
     /* "20: no position has all its cells empty" (1, 4) */
     if (by_rule && no_position(&j->without, q->w, q->h))
         return 20;
-    /* "21: a cell of the place is occupied" (3) */
-    if (op == PIN && !cells_are_empty(&j->without, j->place))
+    /* "21: a cell of the place is occupied" (3, 6) */
+    if (at_place && !cells_are_empty(&j->without, j->place))
         return 21;
     /* "22: the place that the rule chose has an occupied cell" (1, 4) */
     if (by_rule)
@@ -621,7 +650,8 @@ static void carry_out(unsigned W, unsigned H, uint8_t *weights, uint8_t *table,
     if (q->operation == REMOVE)
         memset(table + RECORD * j->slot, 0, RECORD);
     else
-        write_slot(table + RECORD * j->slot, q->id, j->place);
+        write_slot(table + RECORD * j->slot, q->id, j->place,
+                   q->operation == SET ? HARD : MODULE);
     read_surface(&after, W, H, table, slots);
     write_weights(&after, weights);
 }

@@ -66,6 +66,12 @@ static void put_pin(unsigned id, unsigned w, unsigned h, unsigned x, unsigned y)
 { put(3, 0, id, w, h, x, y); }
 static void put_exchange(unsigned id, unsigned w, unsigned h, unsigned rule)
 { put(4, rule, id, w, h, 0, 0); }
+static void put_set(unsigned id, unsigned w, unsigned h, unsigned x, unsigned y)
+{ put(6, 0, id, w, h, x, y); }
+
+/* A pin, and now and then a set. */
+static void put_pin_or_set(unsigned id, unsigned w, unsigned h, unsigned x, unsigned y)
+{ put(one_in(10) ? 6 : 3, 0, id, w, h, x, y); }
 
 /* A clear with both sides in this range. */
 static void clear_between(unsigned least, unsigned most)
@@ -97,7 +103,7 @@ static void put_any(unsigned operations)
 /* A record of bytes that are small enough to mean something. */
 static void put_small_any(unsigned ids, unsigned limit_w, unsigned limit_h)
 {
-    unsigned op = below(7), rule = below(4), id = below(ids + 1);
+    unsigned op = below(8), rule = below(4), id = below(ids + 1);
     unsigned w = below(limit_w + 2), h = below(limit_h + 2);
     unsigned b6 = one_in(2) ? below(limit_w + 1) : 0;
     unsigned b7 = one_in(2) ? below(limit_h + 1) : 0;
@@ -111,14 +117,17 @@ static unsigned side(unsigned limit)
     return one_in(3) ? from_to(1, n) : from_to(1, n / 3 + 1);
 }
 
-/* A pin that lies on the surface. */
-static void put_pin_on(unsigned id, unsigned w, unsigned h)
+/* A pin, or a set, that lies on the surface. */
+static void put_on(unsigned op, unsigned id, unsigned w, unsigned h)
 {
     w = w > side_w ? side_w : w;
     h = h > side_h ? side_h : h;
     unsigned x = below(side_w - w + 1), y = below(side_h - h + 1);
-    put_pin(id, w, h, x, y);
+    put(op, 0, id, w, h, x, y);
 }
+
+static void put_pin_on(unsigned id, unsigned w, unsigned h) { put_on(3, id, w, h); }
+static void put_set_on(unsigned id, unsigned w, unsigned h) { put_on(6, id, w, h); }
 
 /* Mostly a clear comes first; now and then something before it. */
 static void before_the_clear(void)
@@ -126,6 +135,7 @@ static void before_the_clear(void)
     if (!one_in(6))
         return;
     put_place(3, 1, 1, 0);
+    put_set(3, 1, 1, 0, 0);
     put_any(8);
     put(5, one_in(2) ? 1 : 0, 0, 4, 4, 0, 0);
     put(5, 0, 0, one_in(2) ? 0 : 65, 3, 0, 0);
@@ -162,6 +172,8 @@ static void put_load(unsigned ids, unsigned limit_w, unsigned limit_h, unsigned 
         asked[id] = 1;
         if (one_in(3))
             put_pin_on(id, w, h);
+        else if (one_in(10))
+            put_set_on(id, w, h);
         else
             put_place(id, w, h, rule);
     } else if (below(100) < removes) {
@@ -287,7 +299,7 @@ static void at_full_table(void)
     unsigned id = 1000 + below(300), other = 1000 + below(300);
     unsigned late = 2000 + below(50), rule = below(3), w = from_to(1, 3);
     unsigned x = below(side_w), y = below(side_h);
-    switch (below(8)) {
+    switch (below(10)) {
     case 0: put_place(late, 1, 1, rule); break;
     case 1: put_pin(late, 1, 1, x, y); break;
     case 2: put_pin(late, 1, 1, side_w, y); break;
@@ -295,6 +307,8 @@ static void at_full_table(void)
     case 4: put_remove(id); put_place(id, 1, 1, rule); break;
     case 5: put_remove(id); put_remove(other); put_pin(late, 1, 1, x, y); break;
     case 6: put_place(late, 200, 1, rule); break;
+    case 7: put_set(late, 1, 1, x, y); break;
+    case 8: put_set(late, 1, 1, side_w, y); break;
     default: put_place(id, 1, 1, rule); break;
     }
 }
@@ -307,7 +321,7 @@ static void fill_table(void)
         if (one_in(20))
             put_place(1000 + i, 1, 1, rule);
         else
-            put_pin(1000 + i, 1, 1, at % side_w, at / side_w);
+            put_pin_or_set(1000 + i, 1, 1, at % side_w, at / side_w);
     }
 }
 
@@ -356,9 +370,9 @@ static unsigned thin_row(unsigned upright)
         if (one_in(8))
             continue;
         if (upright)
-            put_pin(id++, 1, len, i, at);
+            put_pin_or_set(id++, 1, len, i, at);
         else
-            put_pin(id++, len, 1, at, i);
+            put_pin_or_set(id++, len, 1, at, i);
     }
     return id;
 }
@@ -390,7 +404,7 @@ static unsigned checkerboard(unsigned odd)
     for (unsigned y = 0; y < side_h; y++)
         for (unsigned x = 0; x < side_w; x++)
             if ((x + y + odd) % 2 == 0)
-                put_pin(id++, 1, 1, x, y);
+                put_pin_or_set(id++, 1, 1, x, y);
     return id;
 }
 
@@ -426,12 +440,47 @@ static void stream_checker(void)
     }
 }
 
+/* A request under the id of a block. */
+static void at_hard(unsigned id)
+{
+    unsigned w = below(4), h = below(4), rule = below(3);
+    switch (below(5)) {
+    case 0: put_place(id, w, h, rule); break;
+    case 1: put_remove(id); break;
+    case 2: put_pin_on(id, w, h); break;
+    case 3: put_exchange(id, w, h, rule); break;
+    default: put_set_on(id, w, h); break;
+    }
+}
+
+/* "Processor and memory blocks in the fabric" (order 2): set before the modules,
+ * asked away in vain among them, removed by the next clear. */
+static void stream_hard(void)
+{
+    before_the_clear();
+    while (open_stream()) {
+        clear_between(2, 24);
+        forget_asked();
+        unsigned hards = from_to(1, 8);
+        for (unsigned id = 1; id <= hards; id++) {
+            unsigned w = side(side_w / 2), h = side(side_h / 2);
+            put_set_on(id, w, h);
+        }
+        for (unsigned n = from_to(10, 50); n > 0 && open_stream(); n--)
+            if (one_in(4))
+                at_hard(from_to(1, hards));
+            else
+                put_load(20, side_w / 2, side_h / 2, 40);
+    }
+}
+
 static const struct { const char *name; void (*make)(void); } kinds[] = {
     { "random", stream_random }, { "sound", stream_sound },
     { "dense", stream_dense }, { "sparse", stream_sparse },
     { "exchange", stream_exchange }, { "full", stream_full },
     { "garbage", stream_garbage }, { "cut", stream_cut },
-    { "thin", stream_thin }, { "checker", stream_checker }
+    { "thin", stream_thin }, { "checker", stream_checker },
+    { "hard", stream_hard }
 };
 
 static int make_stream(const char *kind)
@@ -496,9 +545,11 @@ static uint8_t draw_coordinate(void)
     return one_in(20) ? any_byte() : (uint8_t)below(4);
 }
 
-/* A request with this operation, its bytes mostly as they must be. */
+/* A request with this operation, its bytes mostly as they must be. "New operation
+ * 6 takes the fields of a pin" (order 2). */
 static void draw_request(uint8_t *q, unsigned op)
 {
+    int at_place = op == 3 || op == 6;
     q[0] = (uint8_t)op;
     q[1] = draw_zero();
     if (op == 1 || op == 4)
@@ -507,28 +558,46 @@ static void draw_request(uint8_t *q, unsigned op)
     q[3] = (uint8_t)(one_in(12) ? from_to(1, 2) : 0);
     q[4] = op == 2 ? draw_zero() : draw_side();
     q[5] = op == 2 ? draw_zero() : draw_side();
-    q[6] = op == 3 ? draw_coordinate() : draw_zero();
-    q[7] = op == 3 ? draw_coordinate() : draw_zero();
+    q[6] = at_place ? draw_coordinate() : draw_zero();
+    q[7] = at_place ? draw_coordinate() : draw_zero();
+}
+
+/* One of the operations that there are. */
+static unsigned draw_operation(void)
+{
+    static const uint8_t operations[] = { 1, 2, 3, 4, 6 };
+    return operations[below(5)];
 }
 
 static void draw_any_request(uint8_t *q)
 {
-    draw_request(q, one_in(10) ? below(7) : from_to(1, 4));
+    draw_request(q, one_in(10) ? below(8) : draw_operation());
 }
 
-/* Mostly one that would add a module. */
+/* Mostly one that would add a module or a block. */
 static void draw_adding_request(uint8_t *q)
 {
+    static const uint8_t adding[] = { 1, 1, 3, 3, 6 };
     if (one_in(4))
         draw_any_request(q);
     else
-        draw_request(q, one_in(2) ? 1 : 3);
+        draw_request(q, adding[below(5)]);
 }
 
 static uint64_t run_on(struct call_case *c, const uint8_t *q, uint64_t len, uint8_t *a)
 {
     return brute_run(c->w, c->h, c->weights.byte, c->weights.len,
                      c->table.byte, c->table.len, q, len, a, len);
+}
+
+/* A block of the fabric, where one of twenty drawn can be set. */
+static void set_one(struct call_case *c)
+{
+    uint8_t q[8], a[8] = { 1 };
+    for (unsigned tries = 0; tries < 20 && a[0] != 0; tries++) {
+        draw_request(q, 6);
+        run_on(c, q, 8, a);
+    }
 }
 
 /* Reached through clear and run from random requests. */
@@ -539,6 +608,8 @@ static void standing(struct call_case *c)
     c->weights.len = 2 * c->w * c->h;
     c->table.len = 8 * from_to(1, 4);
     brute_clear(c->w, c->h, c->weights.byte, c->weights.len, c->table.byte, c->table.len);
+    if (one_in(3))
+        set_one(c);
     for (unsigned n = below(10); n > 0; n--) {
         draw_adding_request(q);
         run_on(c, q, 8, a);
@@ -570,23 +641,48 @@ static unsigned entries_of(const struct call_case *c)
 
 /* ---- aims of a run: each operation with each code it can have ------------ */
 
-static const struct { uint8_t op, code; } aims[] = {
-    { 1, 0 }, { 3, 0 }, { 4, 0 }, { 2, 0 }, { 1, 20 }, { 3, 21 }, { 4, 20 }, { 1, 19 },
-    { 3, 19 }, { 3, 18 }, { 1, 17 }, { 3, 17 }, { 4, 17 }, { 2, 16 }, { 4, 16 },
-    { 1, 15 }, { 3, 15 }, { 1, 14 }, { 2, 14 }, { 3, 14 }, { 4, 14 }, { 1, 13 },
-    { 4, 13 }, { 1, 12 }, { 2, 12 }, { 3, 12 }, { 4, 12 }, { 0, 11 }, { 5, 11 }, { 6, 11 }
+/* Where 23 stands among the codes: FLAT has a w of 0, as 23 comes before 17, and
+ * OF_HARD has the id of a block, as 12 and 13 come before 23. */
+enum { FLAT = 1, OF_HARD = 2 };
+struct aim { uint8_t op, code, how; };
+
+static const struct aim aims[] = {
+    { 1, 0, 0 }, { 3, 0, 0 }, { 6, 0, 0 }, { 4, 0, 0 }, { 2, 0, 0 }, { 1, 20, 0 },
+    { 3, 21, 0 }, { 6, 21, 0 }, { 4, 20, 0 }, { 1, 19, 0 }, { 3, 19, 0 }, { 6, 19, 0 },
+    { 3, 18, 0 }, { 6, 18, 0 },
+    { 1, 17, 0 }, { 3, 17, 0 }, { 6, 17, 0 }, { 4, 17, 0 }, { 2, 23, 0 }, { 4, 23, 0 },
+    { 4, 23, FLAT }, { 2, 16, 0 }, { 4, 16, 0 }, { 1, 15, 0 }, { 3, 15, 0 }, { 6, 15, 0 },
+    { 1, 14, 0 }, { 2, 14, 0 }, { 3, 14, 0 }, { 6, 14, 0 }, { 4, 14, 0 }, { 1, 13, 0 },
+    { 4, 13, 0 }, { 1, 12, 0 }, { 2, 12, 0 }, { 3, 12, 0 }, { 6, 12, 0 }, { 4, 12, 0 },
+    { 0, 11, 0 }, { 5, 11, 0 }, { 7, 11, 0 }, { 2, 12, OF_HARD }, { 4, 13, OF_HARD }
 };
 enum { AIMS = sizeof aims / sizeof aims[0] };
 
-/* A request of this operation that has this code on this surface. */
-static int aim_request(const struct call_case *c, unsigned op, unsigned code, uint8_t *q)
+/* The first block of the fabric, or NULL. */
+static const uint8_t *first_hard(const struct call_case *c)
+{
+    for (uint64_t i = 0; i < c->table.len; i += 8)
+        if (c->table.byte[i + 6] == 1)
+            return c->table.byte + i;
+    return NULL;
+}
+
+/* A request that has the aim's code on this surface. */
+static int aim_request(const struct call_case *c, struct aim aim, uint8_t *q)
 {
     uint8_t a[8];
+    const uint8_t *hard = first_hard(c);
+    if (aim.how == OF_HARD && hard == NULL)
+        return 0;
     for (unsigned tries = 0; tries < 60; tries++) {
         struct call_case copy = *c;
-        draw_request(q, op);
+        draw_request(q, aim.op);
+        if (aim.how == FLAT)
+            q[4] = 0;
+        if (aim.how == OF_HARD)
+            memcpy(q + 2, hard, 2);
         run_on(&copy, q, 8, a);
-        if (a[0] == code)
+        if (a[0] == aim.code)
             return 1;
     }
     return 0;
@@ -602,10 +698,10 @@ static int aim_block(struct call_case *c, unsigned aim)
     draw_block(c, n);
     for (unsigned i = 0; i < n; i++) {
         uint8_t *q = c->requests.byte + 8 * i;
-        if (i == mark && !aim_request(&now, aims[aim].op, aims[aim].code, q))
+        if (i == mark && !aim_request(&now, aims[aim], q))
             return 0;
         if (i != mark && one_in(2))
-            aim_request(&now, from_to(1, 4), 0, q);
+            aim_request(&now, (struct aim){ (uint8_t)draw_operation(), 0, 0 }, q);
         run_on(&now, q, 8, a);
     }
     return 1;
@@ -783,7 +879,7 @@ static void count_through(struct call_case *c)
             put_weight(c, i, (int)(i / (unsigned)c->w) + 1);
 }
 
-enum { SURFACE_FAULTS = 20 };
+enum { SURFACE_FAULTS = 24 };
 
 /* The place of a fault: drawn beforehand, in this order. */
 struct draws {
@@ -813,8 +909,18 @@ static void used_slot_fault(uint8_t *used, unsigned kind, const struct draws *d)
         used[0] = used[1] = 0;
     if (kind == 4)                              /* w or h 0 */
         used[4 + d->pick % 2] = 0;
-    if (kind == 11)                             /* a spare byte set */
-        used[6 + d->pick % 2] = (uint8_t)d->byte;
+    if (kind == 11)                             /* kind 2, just over a block's */
+        used[6] = 2;
+    if (kind == 20)                             /* any kind over it */
+        used[6] = (uint8_t)(d->byte | 2);
+    if (kind == 21) {                           /* byte 7: with the kind 1 in all */
+        used[6] = 0;
+        used[7] = 1;
+    }
+    if (kind == 22) {                           /* with the kind 0 in a byte */
+        used[6] = 1;
+        used[7] = 255;
+    }
     if (kind == 15)                             /* gone, the weights stay */
         memset(used, 0, 8);
 }
@@ -835,6 +941,7 @@ static void free_slot_fault(struct call_case *c, uint8_t *f, unsigned kind,
     case 16: write_slot(f, 9, d->x, d->y, d->w, d->h); break;
     case 18: write_slot(f, 9, W, d->y, 1, 1); break;    /* wholly off by one */
     case 19: write_slot(f, 9, d->x, H, 1, 1); break;
+    case 23: f[6] = 1; break;                           /* a kind alone */
     default: break;
     }
 }
@@ -914,10 +1021,11 @@ static void fault_room(struct call_case *c)
 
 /* The codes of each call, in the turn they are aimed at. */
 static const uint8_t call_codes[CALLS][6] = {
-    { 1, 2, 3, 1, 2, 3 }, { 6, 1, 6, 2, 6, 3 }, { 6, 1, 2, 3, 4, 5 }, { 6, 7, 1, 2, 3, 7 }
+    { 1, 2, 3, 1, 2, 3 }, { 6, 1, 6, 2, 6, 3 }, { 6, 1, 2, 3, 4, 5 }, { 6, 7, 1, 2, 3, 6 }
 };
 
-/* How many cases of each call there were, and in each of the two sorts. */
+/* How many cases of each call there were, and in each of the two sorts; the fault
+ * of the next surface that is answered 6: each in turn. */
 static unsigned of_call[CALLS], sound_of[CALLS], faults_of[CALLS], next_fault;
 
 static void apply_fault(struct call_case *c, unsigned code)
@@ -941,7 +1049,7 @@ static void faulted_case(struct call_case *c, unsigned code)
     if (c->call == RUN)
         draw_block(c, below(6));
     if (c->call != CLEAR && code < 6 && one_in(4))
-        apply_fault(c, 6);
+        fault_surface(c, below(SURFACE_FAULTS));
     if (code == 6)
         apply_fault(c, 6);
     if (c->call == LIST)
@@ -1054,12 +1162,14 @@ static void print_case(struct call_case *c)
 
 /* ---- coverage -------------------------------------------------------------------- */
 
-static unsigned long blocks_of[6];
+static unsigned long blocks_of[6], standing_with_hard;
 
 static void count_case(struct call_case *c)
 {
+    int hard = c->call != CLEAR && first_hard(c) != NULL;
     uint64_t r = make_call(c);
     count_result(c->call, r);
+    standing_with_hard += hard && part_of(r, 0) == 0;
     if (c->call != RUN || part_of(r, 0) != 0)
         return;
     blocks_of[c->requests.len / 8]++;
@@ -1072,10 +1182,10 @@ static int print_coverage(void)
     printf("accepted blocks of 0..5 requests:");
     for (unsigned i = 0; i < 6; i++)
         printf(" %lu", blocks_of[i]);
-    printf("\n");
+    printf("\nblocks of the fabric on %lu surfaces that stand\n", standing_with_hard);
     unsigned n = codes_amiss();
     printf("amiss %u\n", n);
-    return n == 0 ? 0 : 1;
+    return n == 0 && standing_with_hard != 0 ? 0 : 1;
 }
 
 static void each_case(unsigned long n, void (*take)(struct call_case *))

@@ -68,7 +68,7 @@ cmp "$build/out" "$here/expected_example.txt" || fail "the program's example"
     fail "the program's example, cut"
 
 for seed in 1 2 3; do
-    for kind in random sound dense sparse exchange full garbage cut thin checker; do
+    for kind in random sound dense sparse exchange full garbage cut thin checker hard; do
         case $kind in
         sparse) n=120 ;;
         full) n=400 ;;

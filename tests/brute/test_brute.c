@@ -82,6 +82,8 @@ static unsigned pin(struct bench *b, unsigned id, unsigned w, unsigned h, unsign
 { return ask8(b, 3, 0, id, w, h, x, y); }
 static unsigned exchange(struct bench *b, unsigned id, unsigned w, unsigned h, unsigned rule)
 { return ask8(b, 4, rule, id, w, h, 0, 0); }
+static unsigned set(struct bench *b, unsigned id, unsigned w, unsigned h, unsigned x, unsigned y)
+{ return ask8(b, 6, 0, id, w, h, x, y); }
 
 /* The last answer's x, y, w, h. */
 static int at(const struct bench *b, unsigned x, unsigned y, unsigned w, unsigned h)
@@ -127,13 +129,21 @@ static int entry_is(const struct bench *b, unsigned i, unsigned x, unsigned y,
     return memcmp(b->room + 8 * i, want, 8) == 0;
 }
 
-static int slot_is(const struct bench *b, unsigned i, unsigned id, unsigned x,
-                   unsigned y, unsigned w, unsigned h)
+static int record_is(const struct bench *b, unsigned i, unsigned id, unsigned x,
+                     unsigned y, unsigned w, unsigned h, unsigned kind)
 {
     uint8_t want[8] = { (uint8_t)(id % 256), (uint8_t)(id / 256), (uint8_t)x,
-                        (uint8_t)y, (uint8_t)w, (uint8_t)h, 0, 0 };
+                        (uint8_t)y, (uint8_t)w, (uint8_t)h, (uint8_t)kind, 0 };
     return memcmp(b->table + 8 * i, want, 8) == 0;
 }
+
+/* "its kind: 0 a module, 1 a block" */
+static int slot_is(const struct bench *b, unsigned i, unsigned id, unsigned x,
+                   unsigned y, unsigned w, unsigned h)
+{ return record_is(b, i, id, x, y, w, h, 0); }
+static int hard_is(const struct bench *b, unsigned i, unsigned id, unsigned x,
+                   unsigned y, unsigned w, unsigned h)
+{ return record_is(b, i, id, x, y, w, h, 1); }
 
 static int counts(struct bench *b, unsigned entries, unsigned corners)
 {
@@ -248,6 +258,80 @@ static void scanned_rows(void)
     CHECK(code_of(brute_list(2, 2, b.weights, 8, b.table, 24, b.room, 8 * 2 * 1 - 8)) == 7);
     CHECK(pin(&b, 2, 1, 1, 0, 1) == 0 && counts(&b, 1, 2) && scanned(&b) == 2);
     CHECK(pin(&b, 3, 1, 1, 1, 1) == 0 && counts(&b, 1, 1) && scanned(&b) == 2);
+}
+
+/* ---- figures with a block of the fabric ------------------------------------ */
+
+/* 4x3, three slots: block 5, 2x1 at (1,1). */
+static void hard_of(struct bench *b)
+{
+    cleared(b, 4, 3, 3);
+    CHECK(set(b, 5, 2, 1, 1, 1) == 0 && at(b, 1, 1, 2, 1));
+    CHECK(hard_is(b, 0, 5, 1, 1, 2, 1));
+}
+
+/* "Blocks count as modules for cells, weights, scanned rows and ids." */
+static void hard_counts(void)
+{
+    struct bench b, pinned;
+    hard_of(&b);
+    CHECK(row_is(&b, 0, (int[]){ 1, 1, 1, 1 }));
+    CHECK(row_is(&b, 1, (int[]){ 2, -2, -1, 2 }));
+    CHECK(row_is(&b, 2, (int[]){ 3, 1, 1, 3 }));
+    CHECK(counts(&b, 4, 3) && scanned(&b) == 2 && check_call(&b) == (uint64_t)1 << 16);
+    CHECK(entry_is(&b, 0, 0, 0, 4, 1) && entry_is(&b, 1, 0, 0, 1, 3));
+    CHECK(entry_is(&b, 2, 0, 2, 4, 1) && entry_is(&b, 3, 3, 0, 1, 3));
+    cleared(&pinned, 4, 3, 3);              /* a module there differs by its kind */
+    CHECK(pin(&pinned, 5, 2, 1, 1, 1) == 0 && counts(&pinned, 4, 3));
+    CHECK(memcmp(pinned.weights, b.weights, sizeof b.weights) == 0);
+    CHECK(memcmp(pinned.room, b.room, sizeof b.room) == 0);
+    CHECK(slot_is(&pinned, 0, 5, 1, 1, 2, 1));
+    CHECK(set(&b, 6, 4, 1, 0, 0) == 0 && scanned(&b) == 2);
+    CHECK(check_call(&b) == (uint64_t)2 << 16);
+}
+
+/* "hard blocks that no trigger may use": the modules around one come and go. */
+static void hard_stays(void)
+{
+    struct bench b;
+    hard_of(&b);
+    CHECK(place(&b, 1, 2, 1, 0) == 0 && at(&b, 0, 0, 2, 1) && slot_is(&b, 1, 1, 0, 0, 2, 1));
+    CHECK(removed(&b, 5) == 23 && exchange(&b, 5, 1, 1, 0) == 23);
+    CHECK(exchange(&b, 5, 0, 0, 0) == 23 && exchange(&b, 5, 2, 1, 0) == 23);
+    CHECK(place(&b, 5, 1, 1, 0) == 15);
+    CHECK(pin(&b, 5, 1, 1, 0, 2) == 15 && set(&b, 5, 1, 1, 0, 2) == 15);
+    CHECK(pin(&b, 6, 1, 1, 2, 1) == 21 && set(&b, 6, 1, 1, 1, 1) == 21);
+    CHECK(place(&b, 6, 3, 2, 0) == 20 && exchange(&b, 1, 4, 2, 0) == 20);
+    CHECK(exchange(&b, 1, 4, 1, 2) == 0 && at(&b, 0, 2, 4, 1) && slot_is(&b, 1, 1, 0, 2, 4, 1));
+    CHECK(removed(&b, 1) == 0 && removed(&b, 1) == 16);
+    CHECK(hard_is(&b, 0, 5, 1, 1, 2, 1) && check_call(&b) == (uint64_t)1 << 16);
+}
+
+/* "Clear removes them too." The id and the slot are free again. */
+static void hard_cleared(void)
+{
+    struct bench b;
+    hard_of(&b);
+    CHECK(brute_clear(4, 3, b.weights, 24, b.table, 24) == 0 && check_call(&b) == 0);
+    CHECK(slot_is(&b, 0, 0, 0, 0, 0, 0) && counts(&b, 1, 1));
+    CHECK(removed(&b, 5) == 16 && exchange(&b, 5, 1, 1, 0) == 16);
+    CHECK(pin(&b, 5, 4, 3, 0, 0) == 0 && slot_is(&b, 0, 5, 0, 0, 4, 3));
+    CHECK(removed(&b, 5) == 0);
+}
+
+/* The lowest free slot, and a slot that a module left: its kind is written
+ * anew each way. */
+static void hard_slots(void)
+{
+    struct bench b;
+    cleared(&b, 4, 3, 3);
+    CHECK(pin(&b, 1, 1, 1, 0, 0) == 0 && set(&b, 258, 1, 1, 1, 0) == 0);
+    CHECK(slot_is(&b, 0, 1, 0, 0, 1, 1) && hard_is(&b, 1, 258, 1, 0, 1, 1));
+    CHECK(removed(&b, 1) == 0 && set(&b, 3, 1, 2, 3, 1) == 0 && hard_is(&b, 0, 3, 3, 1, 1, 2));
+    CHECK(place(&b, 4, 1, 1, 0) == 0 && b.table[8 * 2] == 4 && b.table[8 * 2 + 6] == 0);
+    CHECK(exchange(&b, 4, 2, 1, 1) == 0 && b.table[8 * 2] == 4 && b.table[8 * 2 + 6] == 0);
+    CHECK(set(&b, 9, 1, 1, 0, 2) == 19 && removed(&b, 4) == 0 && set(&b, 9, 1, 1, 0, 2) == 0);
+    CHECK(hard_is(&b, 2, 9, 0, 2, 1, 1) && check_call(&b) == (uint64_t)3 << 16);
 }
 
 /* ---- the edges ---------------------------------------------------------- */
@@ -464,7 +548,7 @@ static void put_slot(struct bench *b, unsigned i, unsigned id, unsigned x,
 static void slots_fall(void)
 {
     struct bench b;
-    for (unsigned i = 2; i < 8; i++) {      /* id 0 with another byte set */
+    for (unsigned i = 2; i < 8; i++) {      /* id 0 with another byte set: kind 1 too */
         sample(&b);
         b.table[8 * 4 + i] = 1;
         FALLS(&b);
@@ -479,8 +563,7 @@ static void slots_fall(void)
     sample(&b); put_slot(&b, 3, 9, 0, 3, 1, 1); FALLS(&b);     /* y + h = H + 1 */
     sample(&b); put_slot(&b, 3, 9, 255, 0, 2, 1); FALLS(&b);   /* the byte sum is 1 */
     sample(&b); put_slot(&b, 3, 9, 0, 255, 1, 2); FALLS(&b);
-    sample(&b); b.table[6] = 1; FALLS(&b);                     /* spare bytes */
-    sample(&b); b.table[8 + 7] = 128; FALLS(&b);
+    sample(&b); b.table[8 + 7] = 128; FALLS(&b);               /* the spare byte */
     /* Off the surface by one, the weights as if cut off there. */
     cleared(&b, 3, 1, 1);
     put_slot(&b, 0, 1, 2, 0, 2, 1); set_weight(&b, 2, 0, -2); FALLS(&b);
@@ -492,6 +575,47 @@ static void slots_fall(void)
     cleared(&b, 1, 3, 1);
     put_slot(&b, 0, 1, 0, 2, 1, 1); set_weight(&b, 0, 2, -1);
     CHECK(check_call(&b) == (uint64_t)1 << 16);
+}
+
+/* "A surface stands with kinds 0 and 1 and every other spare byte zero." Two
+ * tests: not the sum of both bytes, which in a byte may wrap. */
+static void kinds_fall(void)
+{
+    struct bench b;
+    unsigned kinds[] = { 2, 3, 128, 254, 255 };
+    for (unsigned slot = 0; slot < 3; slot++) {
+        sample(&b); b.table[8 * slot + 6] = 1;                  /* stands */
+        CHECK(check_call(&b) == (uint64_t)3 << 16);
+        for (unsigned i = 0; i < 5; i++) {
+            sample(&b); b.table[8 * slot + 6] = (uint8_t)kinds[i]; FALLS(&b);
+        }
+        for (unsigned kind = 0; kind < 2; kind++)
+            for (unsigned spare = 1; spare < 256; spare += 127) {   /* 1, 128, 255 */
+                sample(&b);
+                b.table[8 * slot + 6] = (uint8_t)kind;
+                b.table[8 * slot + 7] = (uint8_t)spare;
+                FALLS(&b);
+            }
+        sample(&b); b.table[8 * slot + 6] = 255; b.table[8 * slot + 7] = 1; FALLS(&b);
+    }
+    sample(&b); b.table[6] = b.table[14] = b.table[22] = 1;     /* blocks alone: stands */
+    CHECK(check_call(&b) == (uint64_t)3 << 16 && removed(&b, 2) == 23);
+    sample(&b); b.table[8 * 3 + 6] = 1; FALLS(&b);              /* no free slot: kind 1 alone */
+    sample(&b); b.table[8 * 3 + 7] = 1; FALLS(&b);
+    sample(&b); put_slot(&b, 3, 9, 0, 0, 0, 0); b.table[8 * 3 + 6] = 1; FALLS(&b);
+}
+
+/* "Blocks count as modules": one that shares a cell or an id, or is not in the
+ * weights, falls as a module does. */
+static void hard_falls(void)
+{
+    struct bench b;
+    sample(&b); put_slot(&b, 3, 9, 3, 1, 1, 1); b.table[8 * 3 + 6] = 1; FALLS(&b);
+    sample(&b); put_slot(&b, 3, 1, 3, 2, 1, 1); set_weight(&b, 3, 2, -1); b.table[8 * 3 + 6] = 1;
+    FALLS(&b);
+    sample(&b); put_slot(&b, 3, 9, 3, 2, 1, 1); b.table[8 * 3 + 6] = 1; FALLS(&b);
+    sample(&b); put_slot(&b, 3, 9, 3, 2, 1, 1); set_weight(&b, 3, 2, -1); b.table[8 * 3 + 6] = 1;
+    CHECK(check_call(&b) == (uint64_t)4 << 16);
 }
 
 static void ids_and_cells_fall(void)
@@ -552,15 +676,15 @@ static void weights_fall(void)
 static void codes_11_to_14(void)
 {
     struct bench b;
-    unsigned unknown[] = { 0, 5, 6, 7, 128, 255 };
+    unsigned unknown[] = { 0, 5, 7, 8, 128, 255 }, known[] = { 1, 2, 3, 4, 6 };
     for (unsigned i = 0; i < 6; i++) {
         cleared(&b, 4, 3, 2);
         CHECK(ask8(&b, unknown[i], 0, 1, 1, 1, 0, 0) == 11);
         CHECK(ask8(&b, unknown[i], 9, 0, 0, 0, 9, 9) == 11);
     }
-    for (unsigned op = 1; op <= 4; op++) {
+    for (unsigned i = 0; i < 5; i++) {
         cleared(&b, 4, 3, 2);
-        CHECK(ask8(&b, op, 0, 1, 1, 1, 0, 0) != 11);
+        CHECK(ask8(&b, known[i], 0, 1, 1, 1, 0, 0) != 11);
     }
     cleared(&b, 4, 3, 2);                                   /* 12 */
     CHECK(ask8(&b, 1, 9, 0, 0, 0, 1, 0) == 12 && ask8(&b, 1, 0, 1, 1, 1, 0, 1) == 12);
@@ -619,6 +743,87 @@ static void codes_18_to_21(void)
     CHECK(pin(&b, 3, 2, 2, 0, 0) == 21 && pin(&b, 3, 2, 2, 0, 1) == 21);
     CHECK(pin(&b, 3, 1, 1, 2, 0) == 21);
     CHECK(pin(&b, 3, 2, 1, 0, 2) == 0 && pin(&b, 4, 1, 1, 0, 0) == 19);
+}
+
+/* ---- operation 6, and 23 ------------------------------------------------------ */
+
+/* "with a pin's refusals in the same order": 12, 14, 15, 17, 18, 19, 21. Each
+ * request breaks the rules of all codes after its own that it can. */
+static void codes_of_set(void)
+{
+    struct bench b;
+    cleared(&b, 4, 3, 2);
+    CHECK(pin(&b, 7, 1, 1, 1, 1) == 0);
+    CHECK(ask8(&b, 6, 1, 0, 0, 0, 9, 9) == 12 && ask8(&b, 6, 255, 1, 1, 1, 0, 0) == 12);
+    CHECK(set(&b, 0, 0, 0, 9, 9) == 14 && set(&b, 7, 0, 9, 9, 9) == 15);
+    CHECK(set(&b, 1, 0, 1, 9, 9) == 17 && set(&b, 1, 1, 0, 9, 9) == 17);
+    CHECK(set(&b, 1, 2, 1, 3, 0) == 18 && set(&b, 1, 1, 2, 0, 2) == 18);
+    CHECK(set(&b, 1, 2, 1, 255, 0) == 18 && set(&b, 1, 1, 2, 0, 255) == 18);
+    CHECK(set(&b, 1, 2, 1, 0, 1) == 21 && set(&b, 1, 2, 2, 0, 0) == 21);
+    CHECK(set(&b, 1, 4, 3, 0, 0) == 21);
+    CHECK(set(&b, 1, 2, 1, 2, 0) == 0 && at(&b, 2, 0, 2, 1) && hard_is(&b, 1, 1, 2, 0, 2, 1));
+    CHECK(set(&b, 2, 0, 1, 9, 9) == 17 && set(&b, 2, 1, 1, 4, 0) == 18);  /* a full table */
+    CHECK(set(&b, 2, 1, 1, 1, 1) == 19 && set(&b, 2, 1, 1, 0, 0) == 19);
+    CHECK(set(&b, 1, 0, 0, 9, 9) == 15);
+}
+
+/* "23, remove or exchange of a block, follows 16": after 12, 13, 14 and 16,
+ * before 17 and 20; beside it the same of a module. */
+static void codes_of_hard(void)
+{
+    struct bench b;
+    cleared(&b, 4, 3, 3);
+    CHECK(set(&b, 5, 2, 1, 1, 1) == 0 && pin(&b, 261, 1, 1, 0, 0) == 0);
+    CHECK(ask8(&b, 2, 0, 5, 0, 1, 0, 0) == 12 && ask8(&b, 4, 0, 5, 1, 1, 0, 1) == 12);
+    CHECK(ask8(&b, 4, 3, 5, 1, 1, 0, 0) == 13 && exchange(&b, 0, 0, 0, 0) == 14);
+    CHECK(removed(&b, 6) == 16 && exchange(&b, 6, 0, 0, 0) == 16);
+    CHECK(removed(&b, 5) == 23);
+    for (unsigned rule = 0; rule < 3; rule++) {
+        CHECK(exchange(&b, 5, 1, 1, rule) == 23 && exchange(&b, 5, 2, 1, rule) == 23);
+        CHECK(exchange(&b, 5, 0, 0, rule) == 23 && exchange(&b, 5, 0, 1, rule) == 23);  /* 17 */
+        CHECK(exchange(&b, 5, 1, 0, rule) == 23 && exchange(&b, 5, 200, 1, rule) == 23); /* 20 */
+        CHECK(exchange(&b, 261, 0, 0, rule) == 17 && exchange(&b, 261, 200, 1, rule) == 20);
+        CHECK(exchange(&b, 261, 1, 1, rule) == 0);
+    }
+    CHECK(removed(&b, 261) == 0 && removed(&b, 5) == 23);
+}
+
+/* The answers and weights of a pin and of a set with the same fields are equal,
+ * but for the operation; the tables, but for the kind. */
+static int set_is_as_pin(const struct bench *b, const uint8_t fields[8])
+{
+    struct bench p = *b, s = *b;
+    uint8_t q[8];
+    memcpy(q, fields, 8);
+    q[0] = 3;
+    brute_run(b->w, b->h, p.weights, weights_len(b), p.table, table_len(b), q, 8, p.answer, 8);
+    q[0] = 6;
+    brute_run(b->w, b->h, s.weights, weights_len(b), s.table, table_len(b), q, 8, s.answer, 8);
+    int ok = p.answer[1] == 3 && s.answer[1] == 6;
+    p.answer[1] = 6;
+    for (unsigned i = 0; i < b->slots; i++) {
+        uint8_t *was = p.table + 8 * i;
+        int is_new = s.answer[0] == 0 && memcmp(was, b->table + 8 * i, 8) != 0;
+        was[6] = is_new ? 1 : was[6];
+    }
+    return ok && memcmp(&p, &s, sizeof p) == 0;
+}
+
+/* Every such request with small fields, with a free slot and without. */
+static void sets_as_pins(void)
+{
+    static struct bench b;
+    unsigned ids[] = { 0, 7, 8, 9 }, differing = 0;
+    for (unsigned slots = 2; slots <= 3; slots++) {
+        cleared(&b, 3, 3, slots);
+        CHECK(pin(&b, 7, 1, 1, 1, 1) == 0 && set(&b, 8, 1, 2, 2, 0) == 0);
+        for (unsigned n = 0; n < 4 * 2 * 5 * 5 * 4 * 4; n++) {
+            uint8_t q[8] = { 0, (uint8_t)(n / 4 % 2), (uint8_t)ids[n % 4], 0, (uint8_t)(n / 8 % 5),
+                             (uint8_t)(n / 40 % 5), (uint8_t)(n / 200 % 4), (uint8_t)(n / 800) };
+            differing += !set_is_as_pin(&b, q);
+        }
+    }
+    CHECK(differing == 0);
 }
 
 /* ---- rules, slots, exchanges ---------------------------------------------- */
@@ -682,6 +887,25 @@ static void block_in_turn(void)
     CHECK(memcmp(a.weights, b.weights, 18) == 0 && memcmp(a.table, b.table, 16) == 0);
     CHECK(memcmp(answers + 8, "\24\1\10\0\0\0\0\0", 8) == 0);
     CHECK(memcmp(answers + 24, "\13\11\2\3\0\0\0\0", 8) == 0);
+}
+
+/* The same with a block among the modules: set; refused on it, of it, under its
+ * id; placed beside it. */
+static void hard_in_turn(void)
+{
+    struct bench b;
+    uint8_t answers[8 * 8], q[8 * 8] = {
+        6, 0, 5, 0, 2, 1, 1, 1,  3, 0, 6, 0, 1, 1, 2, 1,  2, 0, 5, 0, 0, 0, 0, 0,
+        4, 1, 5, 0, 0, 0, 0, 0,  6, 0, 5, 0, 1, 1, 0, 0,  1, 0, 1, 0, 2, 1, 0, 0,
+        2, 0, 1, 0, 0, 0, 0, 0,  6, 0, 1, 0, 1, 3, 3, 0 };
+    const uint8_t want[8 * 8] = {
+        0, 6, 5, 0, 1, 1, 2, 1,  21, 3, 6, 0, 0, 0, 0, 0,  23, 2, 5, 0, 0, 0, 0, 0,
+        23, 4, 5, 0, 0, 0, 0, 0, 15, 6, 5, 0, 0, 0, 0, 0,  0, 1, 1, 0, 0, 0, 2, 1,
+        0, 2, 1, 0, 0, 0, 2, 1,  0, 6, 1, 0, 3, 0, 1, 3 };
+    cleared(&b, 4, 3, 3);
+    CHECK(brute_run(4, 3, b.weights, 24, b.table, 24, q, 64, answers, 64) == (uint64_t)4 << 16);
+    CHECK(memcmp(answers, want, 64) == 0);
+    CHECK(hard_is(&b, 0, 5, 1, 1, 2, 1) && hard_is(&b, 1, 1, 3, 0, 1, 3));
 }
 
 /* ---- the list, word for word, over every filling of small surfaces ------- */
@@ -769,7 +993,7 @@ static int places_agree(unsigned W, unsigned H, unsigned filling, const struct b
     return 1;
 }
 
-/* All modules are single cells: row y - 1 is scanned where row y has one. */
+/* All modules and blocks are single cells: row y - 1 is scanned where row y has one. */
 static unsigned scanned_above(unsigned W, unsigned H, unsigned filling)
 {
     unsigned n = 1;
@@ -789,7 +1013,7 @@ static void every_filling(unsigned W, unsigned H)
         brute_clear(W, H, b.weights, weights_len(&b), b.table, table_len(&b));
         for (unsigned i = 0; i < W * H; i++)
             if (filling >> i & 1) {
-                uint8_t p[8] = { 3, 0, (uint8_t)(i + 1), 0, 1, 1,
+                uint8_t p[8] = { (filling + i) % 3 == 0 ? 6 : 3, 0, (uint8_t)(i + 1), 0, 1, 1,
                                  (uint8_t)(i % W), (uint8_t)(i / W) };
                 memcpy(q + 8 * n++, p, 8);
             }
@@ -870,6 +1094,24 @@ static void program_clears(void)
         "16 2 1 0 0 0 0\n11 0 2 0 0 0 0\nm 0 0 1 2 2\ncorners 1 list 1\n"));
 }
 
+/* Before the first clear a set is answered 8 as any other operation; the next
+ * clear removes the block. */
+static void program_sets(void)
+{
+    const uint8_t in[] = {
+        6, 0, 5, 0, 2, 1, 1, 1,  5, 0, 0, 0, 4, 3, 0, 0,  6, 0, 5, 0, 2, 1, 1, 1,
+        2, 0, 5, 0, 0, 0, 0, 0,  4, 0, 5, 0, 0, 0, 0, 0,  7, 0, 5, 0, 1, 1, 0, 0,
+        5, 0, 0, 0, 0, 3, 0, 0,  2, 0, 5, 0, 0, 0, 0, 0,
+        5, 0, 0, 0, 4, 3, 0, 0,  2, 0, 5, 0, 0, 0, 0, 0 };
+#define SETS "8 6 5 0 0 0 0\n0 5 0 0 0 4 3\n0 6 5 1 1 2 1\n23 2 5 0 0 0 0\n23 4 5 0 0 0 0\n" \
+             "11 7 5 0 0 0 0\n1 5 0 0 0 0 0\n23 2 5 0 0 0 0\n"
+    CHECK(gives(in, 8, "8 6 5 0 0 0 0\ncorners 0 list 0\n"));
+    CHECK(gives(in, 64, SETS "m 0 0 4 1 4\nm 0 0 1 3 3\nm 0 2 4 1 4\nm 3 0 1 3 3\n"
+                "corners 3 list 4\n"));
+    CHECK(gives(in, 80, SETS "0 5 0 0 0 4 3\n16 2 5 0 0 0 0\nm 0 0 4 3 12\ncorners 1 list 1\n"));
+#undef SETS
+}
+
 int main(void)
 {
     cases_a_to_c();
@@ -877,6 +1119,10 @@ int main(void)
     cases_g_to_i();
     two_by_three();
     scanned_rows();
+    hard_counts();
+    hard_stays();
+    hard_cleared();
+    hard_slots();
     size_edges();
     sizes_elsewhere();
     block_edges();
@@ -884,14 +1130,20 @@ int main(void)
     request_edges();
     room_edges();
     slots_fall();
+    kinds_fall();
+    hard_falls();
     ids_and_cells_fall();
     weights_fall();
     codes_11_to_14();
     codes_15_to_17();
     codes_18_to_21();
+    codes_of_set();
+    codes_of_hard();
+    sets_as_pins();
     rules_and_ties();
     exchanges();
     block_in_turn();
+    hard_in_turn();
     every_filling(1, 1);
     every_filling(1, 4);
     every_filling(4, 1);
@@ -901,6 +1153,7 @@ int main(void)
     every_filling(6, 2);
     program_example();
     program_clears();
+    program_sets();
     printf("brute: %u checks, %u failed\n", checks, failed);
     return failed == 0 ? 0 : 1;
 }

@@ -11,10 +11,10 @@
 static struct call_case c;
 static unsigned W, H, laid;
 static unsigned long ways;
-static uint8_t modules[64][4], taken[8][8];
+static uint8_t modules[64][4], kinds[64], taken[8][8];
 
 /* The modules in slots drawn at random, so that the order of the table does
- * not follow that of the places. */
+ * not follow that of the places; each of either kind, 0 or 1. */
 static void fill_table(void)
 {
     unsigned slots = W * H;
@@ -26,11 +26,32 @@ static void fill_table(void)
         while (is_used(s));
         s[0] = (uint8_t)(i + 1);
         memcpy(s + 2, modules[i], 4);
+        s[6] = kinds[i] = (uint8_t)below(2);
+    }
+}
+
+/* "23, remove or exchange of a block, follows 16" (order 2): each is asked away, or
+ * to be exchanged for one of 0x0, which is 17 of a module. */
+static void asked_away(void)
+{
+    c.call = RUN;
+    c.lent[REQUESTS].len = 8 * laid;
+    for (unsigned i = 0; i < laid; i++)
+        put_request(c.lent[REQUESTS].byte + 8 * i, one_in(2) ? 2 : 4, 0, i + 1, 0, 0, 0, 0);
+    fill_any(&c.lent[ANSWERS], 8 * laid);
+    both(&c);
+    for (unsigned i = 0; i < laid; i++) {
+        const uint8_t *a = c.lent[ANSWERS].byte + 8 * i;
+        if (a[0] == (kinds[i] == HARD ? 23 : a[1] == 4 ? 17 : 0))
+            continue;
+        printf("host: operation %u on a record of kind %u: code %u\n", a[1], kinds[i], a[0]);
+        differ++;
     }
 }
 
 /* Room of W entries for each scanned row; in one case in eight also one byte less
- * than the entries take, and in one in four room for W*H of them or more. */
+ * than the entries take, and in one in four room for W*H of them or more. In one in
+ * four each module is asked away. */
 static void one_way(void)
 {
     c.w = W;
@@ -49,6 +70,8 @@ static void one_way(void)
         listed_in(&c, need - (need > 0));
     if (one_in(4))
         listed_in(&c, 8 * W * H + below(9));
+    if (one_in(4))
+        asked_away();
     ways++;
 }
 

@@ -1,4 +1,5 @@
-/* Every way to lay modules on a 3x4 surface, each checked and listed. */
+/* Every way to lay modules on a 3x4 surface, their kinds drawn, each checked and
+ * listed, and some asked away. */
 #ifndef ALL34_H
 #define ALL34_H
 

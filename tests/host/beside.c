@@ -122,6 +122,8 @@ static void records(void)
     is("operation 5", ask(5, 0, 1, 1, 1, 0, 0), 11);
     is("operation 4", ask(4, 0, 1, 1, 1, 0, 0), 16);
     is("operation 0", ask(0, 0, 1, 1, 1, 0, 0), 11);
+    is("operation 7", ask(7, 0, 1, 1, 1, 0, 0), 11);
+    is("operation 255", ask(255, 0, 1, 1, 1, 0, 0), 11);
     is("place with byte 6", ask(1, 0, 1, 1, 1, 1, 0), 12);
     is("place with byte 7", ask(1, 0, 1, 1, 1, 0, 1), 12);
     is("pin with a rule", ask(3, 1, 1, 1, 1, 0, 0), 12);
@@ -159,6 +161,132 @@ static void places(void)
     is("place on a full surface", ask(1, 0, 2, 1, 1, 0, 0), 20);
 }
 
+/* Whether slot n is this record: "its kind: 0 a module, 1 a block" (order 2). */
+static void slot_is(const char *what, int n, int id, int x, int y, int w, int h, int kind)
+{
+    const uint8_t s[8] = { (uint8_t)(id & 255), (uint8_t)(id >> 8), (uint8_t)x, (uint8_t)y, (uint8_t)w, (uint8_t)h, (uint8_t)kind, 0 };
+    is(what, memcmp(table + 8 * n, s, 8) == 0, 1);
+}
+
+static void answer_is(const char *what, int op, int id, int x, int y, int w, int h)
+{
+    const uint8_t a[8] = { 0, (uint8_t)op, (uint8_t)(id & 255), (uint8_t)(id >> 8), (uint8_t)x, (uint8_t)y, (uint8_t)w, (uint8_t)h };
+    is(what, memcmp(answers, a, 8) == 0, 1);
+}
+
+/* "New operation 6 takes the fields of a pin and sets a block, with a pin's refusals in the same
+ * order": each request gives its code though those after it apply too, where they can. */
+static void sets(void)
+{
+    anew(2);
+    is("pin id 1", ask(3, 0, 1, 1, 1, 1, 0), 0);
+    is("set with a rule", ask(6, 1, 0, 0, 0, 9, 9), 12);
+    is("set id 0", ask(6, 0, 0, 0, 0, 9, 9), 14);
+    is("set id 1", ask(6, 0, 1, 0, 0, 9, 9), 15);
+    is("set of width 0", ask(6, 0, 2, 0, 1, 9, 9), 17);
+    is("set of height 0", ask(6, 0, 2, 1, 0, 9, 9), 17);
+    is("set 2x1 at x = 2", ask(6, 0, 2, 2, 1, 2, 0), 18);
+    is("set 1x2 at y = 1", ask(6, 0, 2, 1, 2, 1, 1), 18);
+    is("set 2x1 at x = 255", ask(6, 0, 2, 2, 1, 255, 0), 18);
+    is("set on id 1", ask(6, 0, 2, 2, 1, 1, 0), 21);
+    is("set with a cell on id 1", ask(6, 0, 2, 2, 2, 0, 0), 21);
+    is("set beside id 1", ask(6, 0, 258, 2, 1, 1, 1), 0);
+    answer_is("its answer", 6, 258, 1, 1, 2, 1);
+    slot_is("its slot", 1, 258, 1, 1, 2, 1, 1);
+    slot_is("the slot of id 1", 0, 1, 1, 0, 1, 1, 0);
+    is("set of width 0, no free slot", ask(6, 0, 2, 0, 1, 0, 0), 17);
+    is("set off the surface, no free slot", ask(6, 0, 2, 1, 1, 3, 0), 18);
+    is("set on a block, no free slot", ask(6, 0, 2, 1, 1, 1, 1), 19);
+    is("set, no free slot", ask(6, 0, 2, 1, 1, 0, 0), 19);
+    is("remove id 1", ask(2, 0, 1, 0, 0, 0, 0), 0);
+    is("set on a block", ask(6, 0, 2, 1, 1, 1, 1), 21);
+    is("pin on a block", ask(3, 0, 2, 1, 1, 2, 1), 21);
+    is("set in the slot of id 1", ask(6, 0, 2, 1, 1, 0, 0), 0);
+    slot_is("that slot", 0, 2, 0, 0, 1, 1, 1);
+    is("the surface stands", check(), 0);
+    anew(2);
+    is("the blocks are cleared: remove", ask(2, 0, 258, 0, 0, 0, 0), 16);
+    is("the blocks are cleared: set", ask(6, 0, 258, W, H, 0, 0), 0);
+    is("a place of no free cell", ask(1, 0, 1, 1, 1, 0, 0), 20);
+}
+
+/* "23, remove or exchange of a block, follows 16": and beside it a module, an id that is not placed,
+ * and what comes before 23. */
+static void hards(void)
+{
+    anew(3);
+    is("set id 5", ask(6, 0, 5, 1, 2, 1, 0), 0);
+    is("pin id 6", ask(3, 0, 6, 1, 1, 0, 0), 0);
+    is("remove of a block", ask(2, 0, 5, 0, 0, 0, 0), 23);
+    is("remove of a block with a width", ask(2, 0, 5, 1, 0, 0, 0), 12);
+    is("remove of id 7", ask(2, 0, 7, 0, 0, 0, 0), 16);
+    is("remove of id 261", ask(2, 0, 261, 0, 0, 0, 0), 16);
+    is("exchange of a block", ask(4, 0, 5, 1, 1, 0, 0), 23);
+    is("exchange of a block to its own size", ask(4, 2, 5, 1, 2, 0, 0), 23);
+    is("exchange of a block to 0x0", ask(4, 0, 5, 0, 0, 0, 0), 23);
+    is("exchange of a block to 0x1", ask(4, 0, 5, 0, 1, 0, 0), 23);
+    is("exchange of a block to 1x0", ask(4, 0, 5, 1, 0, 0, 0), 23);
+    is("exchange of a block to 200x1", ask(4, 1, 5, 200, 1, 0, 0), 23);
+    is("exchange of a block with byte 6", ask(4, 0, 5, 1, 1, 1, 0), 12);
+    is("exchange of a block by rule 3", ask(4, 3, 5, 1, 1, 0, 0), 13);
+    is("exchange of id 0", ask(4, 0, 0, 0, 0, 0, 0), 14);
+    is("exchange of id 7 to 0x0", ask(4, 0, 7, 0, 0, 0, 0), 16);
+    is("exchange of a module to 0x0", ask(4, 0, 6, 0, 0, 0, 0), 17);
+    is("exchange of a module to 200x1", ask(4, 0, 6, 200, 1, 0, 0), 20);
+    is("exchange of a module over the block", ask(4, 0, 6, 2, 1, 0, 0), 20);
+    is("exchange of a module beside the block", ask(4, 0, 6, 1, 2, 0, 0), 0);
+    slot_is("its slot", 1, 6, 0, 0, 1, 2, 0);
+    is("place under the id of a block", ask(1, 0, 5, 1, 1, 0, 0), 15);
+    is("pin under the id of a block", ask(3, 0, 5, 1, 1, 2, 0), 15);
+    is("set under the id of a block", ask(6, 0, 5, 1, 1, 2, 0), 15);
+    is("place beside the block", ask(1, 0, 7, 1, 2, 0, 0), 0);
+    slot_is("the slot of id 7", 2, 7, 2, 0, 1, 2, 0);
+    is("remove of a module beside the block", ask(2, 0, 6, 0, 0, 0, 0), 0);
+    is("remove of the module on its other side", ask(2, 0, 7, 0, 0, 0, 0), 0);
+    slot_is("the block's slot", 0, 5, 1, 0, 1, 2, 1);
+    is("remove of the block once more", ask(2, 0, 5, 0, 0, 0, 0), 23);
+}
+
+/* The code of a check with these bytes 6 and 7 in slot n, put back afterwards. */
+static unsigned check_with(int n, int kind, int spare)
+{
+    uint8_t *s = table + 8 * n, was[2] = { s[6], s[7] };
+    s[6] = (uint8_t)kind;
+    s[7] = (uint8_t)spare;
+    unsigned code = check();
+    memcpy(s + 6, was, 2);
+    return code;
+}
+
+/* "A surface stands with kinds 0 and 1 and every other spare byte zero": a module in slot 0, a block
+ * in slot 1, slot 2 free. */
+static void kinds(void)
+{
+    anew(3);
+    is("a module", ask(3, 0, 1, 1, 1, 0, 0), 0);
+    is("a block", ask(6, 0, 2, 1, 1, 2, 1), 0);
+    is("used slots", freelist_first(freelist_check(W, H, weights, 2 * CELLS, table, 8 * slots)), 2);
+    for (int n = 0; n < 2; n++) {
+        is("kind 0", check_with(n, 0, 0), 0);
+        is("kind 1", check_with(n, 1, 0), 0);
+        is("kind 2", check_with(n, 2, 0), 6);
+        is("kind 3", check_with(n, 3, 0), 6);
+        is("kind 128", check_with(n, 128, 0), 6);
+        is("kind 255", check_with(n, 255, 0), 6);
+        is("kind 0 and byte 7", check_with(n, 0, 1), 6);
+        is("kind 1 and byte 7", check_with(n, 1, 1), 6);
+        is("kind 1 and byte 7 of 255", check_with(n, 1, 255), 6);
+        is("kind 255 and byte 7", check_with(n, 255, 1), 6);
+    }
+    is("a free slot", check_with(2, 0, 0), 0);
+    is("a free slot with kind 1", check_with(2, 1, 0), 6);
+    is("a free slot with byte 7", check_with(2, 0, 1), 6);
+    table[6] = 1;
+    is("the module made a block", ask(2, 0, 1, 0, 0, 0, 0), 23);
+    table[6] = 0;
+    is("the module", ask(2, 0, 1, 0, 0, 0, 0), 0);
+}
+
 int main(void)
 {
     sizes();
@@ -166,6 +294,9 @@ int main(void)
     scanned_rows();
     records();
     places();
+    sets();
+    hards();
+    kinds();
     printf("beside: %d cases, %d wrong\n", cases, wrong);
     return wrong != 0;
 }

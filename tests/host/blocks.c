@@ -45,7 +45,7 @@ static void add_any(void)
     uint8_t b[8];
     for (unsigned i = 0; i < 8; i++)
         b[i] = any_byte();
-    add(one_in(2) ? b[0] : b[0] % 7, b[1], b[2] + 256u * b[3], b[4], b[5], b[6], b[7]);
+    add(one_in(2) ? b[0] : b[0] % 8, b[1], b[2] + 256u * b[3], b[4], b[5], b[6], b[7]);
 }
 
 static void add_place(void)
@@ -62,22 +62,27 @@ static void add_remove(void)
     add(2, rule, id, w, h, b6, b7);
 }
 
-static void add_pin(void)
+/* A pin, or a set: "New operation 6 takes the fields of a pin" (order 2). */
+static void add_at_place(unsigned op)
 {
     unsigned rule = some_zero(), id = some_id(), w = some_side(on->w), h = some_side(on->h);
     unsigned x = one_in(25) ? any_byte() : below((unsigned)on->w);
     unsigned y = one_in(25) ? any_byte() : below((unsigned)on->h);
-    add(3, rule, id, w, h, x, y);
+    add(op, rule, id, w, h, x, y);
 }
+
+static void add_pin(void) { add_at_place(3); }
+static void add_set(void) { add_at_place(6); }
 
 /* The sum in a byte would be on the surface. */
 static void add_wrapping_pin(void)
 {
     unsigned id = some_id(), far = from_to(1, 100), x = below((unsigned)on->w), y = below((unsigned)on->h);
+    unsigned op = one_in(3) ? 6 : 3;
     if (one_in(2))
-        add(3, 0, id, far + x, 1, 256 - far, y);
+        add(op, 0, id, far + x, 1, 256 - far, y);
     else
-        add(3, 0, id, 1, far + y, x, 256 - far);
+        add(op, 0, id, 1, far + y, x, 256 - far);
 }
 
 static void add_exchange(void)
@@ -110,6 +115,19 @@ static void add_exchanges(void)
         add(4, rule, id, 1, 1, 0, 0);
 }
 
+/* A block of the fabric asked away in vain, and asked for again. */
+static void add_at_hard(void)
+{
+    unsigned id = some_id(), rule = below(3), x = below((unsigned)on->w), y = below((unsigned)on->h);
+    unsigned w = one_in(3) ? 0 : some_side(on->w), h = one_in(3) ? 0 : some_side(on->h);
+    add(6, 0, id, 1, 1, x, y);
+    add(2, 0, id, 0, 0, 0, 0);
+    add(4, rule, id, w, h, 0, 0);
+    add(one_in(2) ? 6 : 3, 0, id, w, h, x, y);
+    if (one_in(2))
+        add(1, rule, id, w, h, 0, 0);
+}
+
 /* More modules than the table has slots, single cells. */
 static void add_many(void)
 {
@@ -119,13 +137,13 @@ static void add_many(void)
         if (one_in(4))
             add(1, rule, ++id, 1, 1, 0, 0);
         else
-            add(3, 0, ++id, 1, 1, x, y);
+            add(one_in(4) ? 6 : 3, 0, ++id, 1, 1, x, y);
     }
 }
 
 static void add_some(void)
 {
-    switch (below(16)) {
+    switch (below(18)) {
     case 0: add_any(); break;
     case 1: case 2: case 3: add_remove(); break;
     case 4: case 5: case 6: add_pin(); break;
@@ -133,6 +151,8 @@ static void add_some(void)
     case 9: case 10: add_exchanges(); break;
     case 11: add_many(); break;
     case 12: add_wrapping_pin(); break;
+    case 13: add_set(); break;
+    case 14: add_at_hard(); break;
     default: add_place(); break;
     }
 }
@@ -219,6 +239,18 @@ static int same_surface(const struct call_case *a, const struct call_case *b)
         && memcmp(a->lent[TABLE].byte, b->lent[TABLE].byte, a->lent[TABLE].len) == 0;
 }
 
+/* "hard blocks that no trigger may use" (order 2): each is afterwards in its slot as it
+ * was, byte for byte. */
+static int hards_stay(const struct call_case *before, const struct call_case *after)
+{
+    for (uint64_t i = 0; i < before->lent[TABLE].len; i += 8) {
+        const uint8_t *s = before->lent[TABLE].byte + i;
+        if (s[6] == HARD && memcmp(s, after->lent[TABLE].byte + i, 8) != 0)
+            return 0;
+    }
+    return 1;
+}
+
 void history(struct call_case *c)
 {
     static struct call_case one, whole, cut;
@@ -231,12 +263,17 @@ void history(struct call_case *c)
         printf("host: the history of case %lu depends on how it is cut\n", cases);
         differ++;
     }
+    if (!hards_stay(c, &one)) {
+        printf("host: the history of case %lu moves a block of the fabric\n", cases);
+        differ++;
+    }
     checked_and_listed(&one);
 }
 
 /* ---- each code of each operation ------------------------------------------------------------- */
 
-/* On 3x3 with two slots, in this turn: the request, and the code it gives. */
+/* On 3x3 with two slots, in this turn: the request, and the code it gives. Module 2
+ * stands at (0,0), 3x1, when the sets begin; block 3 at (1,1), 2x1, stays. */
 static const uint8_t aimed[][9] = {
     { 3, 0, 7, 0, 1, 1, 1, 1, 0 },
     { 0, 0, 1, 0, 1, 1, 0, 0, 11 }, { 5, 0, 1, 0, 1, 1, 0, 0, 11 }, { 255, 0, 1, 0, 1, 1, 0, 0, 11 },
@@ -249,7 +286,18 @@ static const uint8_t aimed[][9] = {
     { 2, 0, 1, 0, 0, 0, 0, 0, 0 }, { 3, 0, 2, 0, 1, 1, 1, 1, 21 }, { 3, 0, 2, 0, 3, 1, 0, 0, 0 },
     { 4, 0, 7, 0, 1, 1, 0, 1, 12 }, { 4, 3, 7, 0, 1, 1, 0, 0, 13 }, { 4, 0, 0, 0, 1, 1, 0, 0, 14 },
     { 4, 0, 9, 0, 1, 1, 0, 0, 16 }, { 4, 0, 7, 0, 0, 1, 0, 0, 17 }, { 4, 0, 7, 0, 4, 1, 0, 0, 20 },
-    { 4, 2, 7, 0, 3, 2, 0, 0, 0 }, { 2, 0, 7, 0, 0, 0, 0, 0, 0 } };
+    { 4, 2, 7, 0, 3, 2, 0, 0, 0 }, { 2, 0, 7, 0, 0, 0, 0, 0, 0 },
+    { 6, 1, 3, 0, 1, 1, 0, 1, 12 }, { 6, 0, 0, 0, 1, 1, 0, 1, 14 }, { 6, 0, 2, 0, 1, 1, 0, 1, 15 },
+    { 6, 0, 3, 0, 0, 1, 0, 1, 17 }, { 6, 0, 3, 0, 1, 0, 0, 1, 17 }, { 6, 0, 3, 0, 3, 1, 1, 1, 18 },
+    { 6, 0, 3, 0, 1, 3, 0, 1, 18 }, { 6, 0, 3, 0, 1, 1, 1, 0, 21 }, { 6, 0, 3, 0, 2, 1, 1, 1, 0 },
+    { 6, 0, 4, 0, 1, 1, 0, 2, 19 }, { 6, 0, 4, 0, 1, 1, 1, 1, 19 }, { 7, 0, 4, 0, 1, 1, 0, 2, 11 },
+    { 2, 0, 3, 0, 1, 0, 0, 0, 12 }, { 2, 0, 3, 0, 0, 0, 0, 0, 23 }, { 2, 0, 4, 0, 0, 0, 0, 0, 16 },
+    { 4, 0, 3, 0, 1, 1, 0, 1, 12 }, { 4, 3, 3, 0, 1, 1, 0, 0, 13 }, { 4, 0, 4, 0, 0, 0, 0, 0, 16 },
+    { 4, 0, 3, 0, 1, 1, 0, 0, 23 }, { 4, 2, 3, 0, 2, 1, 0, 0, 23 }, { 4, 0, 3, 0, 0, 0, 0, 0, 23 },
+    { 4, 1, 3, 0, 0, 1, 0, 0, 23 }, { 4, 0, 3, 0, 1, 0, 0, 0, 23 }, { 4, 0, 3, 0, 4, 1, 0, 0, 23 },
+    { 4, 0, 2, 0, 0, 0, 0, 0, 17 }, { 4, 0, 2, 0, 2, 2, 0, 0, 20 }, { 4, 0, 2, 0, 1, 3, 0, 0, 0 },
+    { 1, 0, 3, 0, 1, 1, 0, 0, 15 }, { 3, 0, 3, 0, 1, 1, 1, 0, 15 }, { 6, 0, 3, 0, 2, 1, 1, 1, 15 },
+    { 2, 0, 2, 0, 0, 0, 0, 0, 0 }, { 3, 0, 4, 0, 1, 1, 2, 1, 21 }, { 2, 0, 3, 0, 0, 0, 0, 0, 23 } };
 
 void every_request_code(struct call_case *c)
 {

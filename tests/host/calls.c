@@ -76,13 +76,21 @@ static int odd_weight(void)
     return odd[below(16)];
 }
 
-/* Bytes of a table that may mean something. */
+/* Byte k of a slot that may mean something: a kind 0, 1 or now and then 2, and behind
+ * it mostly 0. */
+static unsigned small_byte(unsigned k)
+{
+    if (k == 6)
+        return below(41) / 20;
+    if (k == 7)
+        return below(21) / 20;
+    return k == 1 ? 0 : below(5);
+}
+
 static void small_table(struct call_case *c)
 {
-    for (uint64_t i = 0; i < c->lent[TABLE].len; i++) {
-        unsigned k = (unsigned)(i % 8);
-        c->lent[TABLE].byte[i] = (uint8_t)(k > 5 ? below(21) / 20 : k == 1 ? 0 : below(5));
-    }
+    for (uint64_t i = 0; i < c->lent[TABLE].len; i++)
+        c->lent[TABLE].byte[i] = (uint8_t)small_byte((unsigned)(i % 8));
 }
 
 static void small_weights(struct call_case *c)

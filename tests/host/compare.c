@@ -5,7 +5,8 @@
  *   compare all34                every way to lay modules on 3x4 and on 4x3
  *
  * Exit status 0 when no case differs, every code was given that may be, and no
- * other, and some list filled a room of W entries for each scanned row. */
+ * other, some list filled a room of W entries for each scanned row, and each shape
+ * had blocks of the fabric. */
 #include "all34.h"
 #include "blocks.h"
 #include "both.h"
@@ -20,7 +21,7 @@
 
 enum { WAYS34 = 121685 };
 
-static unsigned long shapes_seen[SHAPES], large_seen[SHAPES], damages_seen[DAMAGES];
+static unsigned long shapes_seen[SHAPES], large_seen[SHAPES], hard_seen[SHAPES], damages_seen[DAMAGES];
 static struct call_case c;
 static int is_sample;                   /* nothing large */
 
@@ -35,6 +36,7 @@ static void standing(unsigned long round, unsigned shape)
 {
     small_surface(&c, shape);
     shapes_seen[shape]++;
+    hard_seen[shape] += hards_in(&c) != 0;
     checked_and_listed(&c);
     blocks_on(round);
     cleared_over(&c);
@@ -45,6 +47,7 @@ static void large(unsigned long number)
     unsigned shape = (unsigned)(number % SHAPES);
     large_surface(&c, shape);
     large_seen[shape]++;
+    hard_seen[shape] += hards_in(&c) != 0;
     checked_and_listed(&c);
     for (unsigned i = 0; i < 4; i++)
         some_block(&c);
@@ -83,9 +86,22 @@ static void round_of(unsigned long round)
 static void print_kinds(void)
 {
     for (unsigned i = 0; i < SHAPES; i++)
-        printf("standing, %s: %lu small, %lu large\n", shape_names[i], shapes_seen[i], large_seen[i]);
+        printf("standing, %s: %lu small, %lu large, %lu with blocks of the fabric\n", shape_names[i],
+               shapes_seen[i], large_seen[i], hard_seen[i]);
     for (unsigned i = 0; i < DAMAGES; i++)
         printf("fallen, %s: %lu\n", damage_name(i), damages_seen[i]);
+}
+
+/* The first shape is the empty surface; a sample is too short to ask it of. */
+static int each_shape_had_hard(void)
+{
+    int had = 1;
+    for (unsigned i = 1; i < SHAPES && !is_sample; i++)
+        if (hard_seen[i] == 0) {
+            printf("host: no block of the fabric on any surface: %s\n", shape_names[i]);
+            had = 0;
+        }
+    return had;
 }
 
 static int end(int is_whole)
@@ -127,7 +143,8 @@ static int rounds(uint64_t seed, unsigned long scale)
         round_of(i);
     printf("seed %llu, %lu rounds\n", (unsigned long long)seed, scale);
     print_kinds();
-    return end(codes_amiss() == 0);
+    int is_whole = codes_amiss() == 0;
+    return end(each_shape_had_hard() && is_whole);
 }
 
 static int all34(void)

@@ -10,8 +10,12 @@
 
 /* "every slot is free or has an id, w and h of at least 1, x + w <= W,
  * y + h <= H and zero spare bytes; no two used slots have the same id; no two
- * modules share a cell; and every weight is as above." */
-enum { ID = 1, SIDE = 2, ACROSS = 4, DOWN = 8, SPARE = 16, SAME_ID = 32, SHARED = 64, WEIGHT = 128 };
+ * modules share a cell; and every weight is as above." "A surface stands with kinds
+ * 0 and 1 and every other spare byte zero" (order 2). */
+enum {
+    ID = 1, SIDE = 2, ACROSS = 4, DOWN = 8, KIND = 16, SPARE = 32, SAME_ID = 64, SHARED = 128,
+    WEIGHT = 256
+};
 
 static unsigned slot_fails(const struct call_case *c, const uint8_t *s)
 {
@@ -22,7 +26,8 @@ static unsigned slot_fails(const struct call_case *c, const uint8_t *s)
     f |= s[4] == 0 || s[5] == 0 ? SIDE : 0;
     f |= s[2] + s[4] + 0u > c->w ? ACROSS : 0;
     f |= s[3] + s[5] + 0u > c->h ? DOWN : 0;
-    f |= s[6] != 0 || s[7] != 0 ? SPARE : 0;
+    f |= s[6] != 0 && s[6] != HARD ? KIND : 0;
+    f |= s[7] != 0 ? SPARE : 0;
     return f;
 }
 
@@ -97,12 +102,12 @@ static unsigned unused_id(const struct call_case *c)
     return id;
 }
 
-/* The module in the free slot, under an id of its own. */
+/* The module in the free slot, under an id of its own, of either kind. */
 static int put_module(struct ground *g, unsigned x, unsigned y, unsigned w, unsigned h)
 {
     if (g->free == NULL)
         return 0;
-    unsigned id = unused_id(g->c), s[8] = { id & 255, id >> 8, x, y, w, h, 0, 0 };
+    unsigned id = unused_id(g->c), kind = below(2), s[8] = { id & 255, id >> 8, x, y, w, h, kind, 0 };
     for (unsigned i = 0; i < 8; i++)
         g->free[i] = (uint8_t)s[i];
     return 1;
@@ -168,16 +173,38 @@ static int wraps_over_it_down(struct ground *g)
     return g->y > 0 && put_on_empty(g, g->x, g->y, 1, 256 - g->y);
 }
 
-static int spare(struct ground *g, unsigned byte)
+static int put_kind(struct ground *g, unsigned kind)
 {
     if (g->used == NULL)
         return 0;
-    g->used[byte] = (uint8_t)from_to(1, 255);
+    g->used[6] = (uint8_t)kind;
     return 1;
 }
 
-static int spare_byte_6(struct ground *g) { return spare(g, 6); }
-static int spare_byte_7(struct ground *g) { return spare(g, 7); }
+static int kind_2(struct ground *g) { return put_kind(g, 2); }
+static int kind_over_2(struct ground *g) { return put_kind(g, one_in(2) ? 255 : from_to(3, 254)); }
+
+/* Of a slot of this kind. With kind 1 and 255 the sum in a byte would be 0. */
+static int put_spare(struct ground *g, unsigned kind)
+{
+    if (!put_kind(g, kind))
+        return 0;
+    g->used[7] = (uint8_t)(one_in(3) ? 1 : one_in(2) ? 255 : from_to(2, 254));
+    return 1;
+}
+
+static int spare_of_module(struct ground *g) { return put_spare(g, 0); }
+static int spare_of_hard(struct ground *g) { return put_spare(g, HARD); }
+
+/* "A free slot is eight zero bytes": with a kind it is none, and has neither id
+ * nor sides. */
+static int kind_in_free(struct ground *g)
+{
+    if (g->free == NULL)
+        return 0;
+    g->free[6] = HARD;
+    return 1;
+}
 
 static int equal_ids(struct ground *g)
 {
@@ -284,7 +311,9 @@ static const struct { const char *name; unsigned fails; int (*make)(struct groun
     { "x + w wraps in a byte", ACROSS, wraps_across }, { "y + h wraps in a byte", DOWN, wraps_down },
     { "x + w = 256 from the surface", ACROSS, wraps_over_it_across },
     { "y + h = 256 from the surface", DOWN, wraps_over_it_down },
-    { "spare byte 6", SPARE, spare_byte_6 }, { "spare byte 7", SPARE, spare_byte_7 },
+    { "kind 2", KIND, kind_2 }, { "kind over 2", KIND, kind_over_2 },
+    { "byte 7 of a module", SPARE, spare_of_module }, { "byte 7 of a block", SPARE, spare_of_hard },
+    { "kind 1 in a free slot", ID | SIDE, kind_in_free },
     { "two equal ids", SAME_ID, equal_ids },
     { "one cell shared, weights as the first", SHARED, shared_as_first },
     { "one cell shared, weights as the last", SHARED, shared_as_last },

@@ -1,11 +1,11 @@
-/* Surfaces that do not stand: each kind breaks one condition of "a surface
- * stands" and leaves the others. */
+/* Surfaces that do not stand: each kind of damage breaks one condition of "a surface
+ * stands" and leaves the others (a free slot with a byte set breaks two). */
 #ifndef DAMAGE_H
 #define DAMAGE_H
 
 #include "lending.h"
 
-enum { DAMAGES = 24 };
+enum { DAMAGES = 27 };
 
 const char *damage_name(unsigned kind);
 

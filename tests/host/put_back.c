@@ -17,8 +17,8 @@
 enum { W = 3, H = 3, PAGE = 65536, SLOTS = 2 };
 enum { WEIGHTS_LEN = 2 * W * H, TABLE_LEN = 8 * SLOTS };
 
-/* On 3x3 with two slots, id 7 at (1,1) and, in the second list, id 8 at (0,0):
- * the request, its code, and whether it writes to the table. */
+/* On 3x3 with two slots, id 7 at (1,1) and, in the second list, the block (order 2)
+ * id 8 at (0,0): the request, its code, and whether it writes to the table. */
 struct row { uint8_t request[8], code, writes_table; };
 
 static const struct row one_module[] = {
@@ -33,9 +33,16 @@ static const struct row one_module[] = {
     { { 3, 0, 1, 0, 3, 1, 1, 0 }, 18, 0 }, { { 3, 0, 1, 0, 3, 3, 0, 0 }, 21, 0 },
     { { 4, 0, 7, 0, 1, 1, 1, 0 }, 12, 0 }, { { 4, 3, 7, 0, 1, 1, 0, 0 }, 13, 0 },
     { { 4, 0, 0, 0, 1, 1, 0, 0 }, 14, 0 }, { { 4, 0, 9, 0, 1, 1, 0, 0 }, 16, 0 },
-    { { 4, 0, 7, 0, 0, 1, 0, 0 }, 17, 0 }, { { 4, 0, 7, 0, 4, 1, 0, 0 }, 20, 1 } };
+    { { 4, 0, 7, 0, 0, 1, 0, 0 }, 17, 0 }, { { 4, 0, 7, 0, 4, 1, 0, 0 }, 20, 1 },
+    { { 6, 1, 1, 0, 1, 1, 0, 0 }, 12, 0 }, { { 6, 0, 0, 0, 1, 1, 0, 0 }, 14, 0 },
+    { { 6, 0, 7, 0, 1, 1, 0, 0 }, 15, 0 }, { { 6, 0, 1, 0, 1, 0, 0, 0 }, 17, 0 },
+    { { 6, 0, 1, 0, 3, 1, 1, 0 }, 18, 0 }, { { 6, 0, 1, 0, 3, 3, 0, 0 }, 21, 0 } };
 static const struct row full_table[] = {
-    { { 1, 0, 1, 0, 1, 1, 0, 0 }, 19, 0 }, { { 3, 0, 1, 0, 1, 1, 2, 2 }, 19, 0 } };
+    { { 1, 0, 1, 0, 1, 1, 0, 0 }, 19, 0 }, { { 3, 0, 1, 0, 1, 1, 2, 2 }, 19, 0 },
+    { { 6, 0, 1, 0, 1, 1, 2, 2 }, 19, 0 },
+    { { 2, 0, 8, 0, 0, 0, 0, 0 }, 23, 0 }, { { 4, 0, 8, 0, 1, 1, 0, 0 }, 23, 0 },
+    { { 4, 0, 8, 0, 0, 0, 0, 0 }, 23, 0 }, { { 4, 0, 8, 0, 4, 1, 0, 0 }, 23, 0 },
+    { { 4, 0, 7, 0, 4, 1, 0, 0 }, 20, 1 } };
 
 static uint8_t *weights, *table;
 static sigjmp_buf before;
@@ -88,16 +95,16 @@ static void one(const struct row *r)
 
 int main(void)
 {
-    static const uint8_t pins[2][8] = { { 3, 0, 7, 0, 1, 1, 1, 1 }, { 3, 0, 8, 0, 1, 1, 0, 0 } };
+    static const uint8_t made[2][8] = { { 3, 0, 7, 0, 1, 1, 1, 1 }, { 6, 0, 8, 0, 1, 1, 0, 0 } };
     weights = new_page();
     table = new_page();
     if (weights == NULL || table == NULL || signal(SIGSEGV, on_fault) == SIG_ERR)
         return 2;
     freelist_clear(W, H, weights, WEIGHTS_LEN, table, TABLE_LEN);
-    wrong += ask(pins[0]) != 0;
+    wrong += ask(made[0]) != 0;
     for (unsigned i = 0; i < sizeof one_module / sizeof one_module[0]; i++)
         one(&one_module[i]);
-    wrong += ask(pins[1]) != 0;
+    wrong += ask(made[1]) != 0;
     for (unsigned i = 0; i < sizeof full_table / sizeof full_table[0]; i++)
         one(&full_table[i]);
     printf("put back: %u refused requests, %u wrong\n", cases, wrong);

@@ -58,6 +58,14 @@ int is_used(const uint8_t *slot)
     return 0;
 }
 
+unsigned hards_in(const struct call_case *c)
+{
+    unsigned n = 0;
+    for (uint64_t i = 0; i < c->lent[TABLE].len; i += 8)
+        n += c->lent[TABLE].byte[i + 6] == HARD;
+    return n;
+}
+
 int get_weight(const struct call_case *c, unsigned x, unsigned y)
 {
     const uint8_t *p = c->lent[WEIGHTS].byte + 2 * (y * c->w + x);
@@ -109,8 +117,9 @@ void paint(struct call_case *c, int first_counts)
 
 /* ---- shapes ------------------------------------------------------------------- */
 
-/* The surface being drawn; the next id, small, or its high byte running. */
-static unsigned W, H, id_step, last_id;
+/* The surface being drawn; the next id, small, or its high byte running; and how
+ * many of 4 rectangles are set as blocks of the fabric, the others pinned. */
+static unsigned W, H, id_step, last_id, hard_of_4;
 
 static unsigned next_id(void) { return last_id = (last_id + id_step) % 65536; }
 static unsigned least(unsigned a, unsigned b) { return a < b ? a : b; }
@@ -118,7 +127,7 @@ static int is_large(void) { return W * H > 200; }
 
 static void pin(unsigned x, unsigned y, unsigned w, unsigned h)
 {
-    ask(3, 0, next_id(), w, h, x, y);
+    ask(below(4) < hard_of_4 ? 6 : 3, 0, next_id(), w, h, x, y);
 }
 
 static void pin_somewhere(unsigned limit_w, unsigned limit_h)
@@ -255,13 +264,14 @@ static void (*const shapes[SHAPES - 1])(void) = {
 
 static void surface(struct call_case *c, unsigned shape, unsigned w, unsigned h)
 {
-    static const unsigned steps[] = { 1, 256, 257, 65535 };
+    static const unsigned steps[] = { 1, 256, 257, 65535 }, hards[] = { 0, 1, 1, 2, 4 };
     if (shape == SHAPES - 1)
         shape = below(SHAPES - 1);
     W = w;
     H = h;
     last_id = 0;
     id_step = steps[below(4)];
+    hard_of_4 = hards[below(5)];
     unsigned slots = one_in(2) ? from_to(1, 12) : from_to(12, 80);
     cleared(c, w, h, one_in(3) || shapes[shape] == full_table ? 256 : slots);
     shapes[shape]();

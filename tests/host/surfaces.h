@@ -8,6 +8,10 @@
 enum { SHAPES = 13 };
 extern const char *const shape_names[SHAPES];
 
+/* "its kind: 0 a module, 1 a block" (order 2). A block of the fabric is called hard
+ * here: a block is one of requests. */
+enum { HARD = 1 };
+
 /* A surface of this shape in the case's weights and table. */
 void small_surface(struct call_case *c, unsigned shape);
 void large_surface(struct call_case *c, unsigned shape);
@@ -23,6 +27,7 @@ void ask(unsigned op, unsigned rule, unsigned id, unsigned w, unsigned h, unsign
 void run_asked(struct call_case *c);
 
 int is_used(const uint8_t *slot);
+unsigned hards_in(const struct call_case *c);   /* used slots of kind 1 */
 int get_weight(const struct call_case *c, unsigned x, unsigned y);
 void put_weight(struct call_case *c, unsigned x, unsigned y, int weight);
 int has_cell(const uint8_t *slot, unsigned x, unsigned y);

@@ -23,27 +23,38 @@ static void run(void)
     result = freelist_run(W, H, weights, sizeof weights, table, sizeof table, requests, sizeof requests, answers, sizeof answers);
 }
 
-/* Requests of all four operations, by all rules, accepted and refused. */
+/* Requests of all five operations, by all rules, accepted and refused; pins and blocks
+ * of the fabric first, so that some of these are asked away. */
 static void mix(void)
 {
     for (int i = 0; i < REQUESTS; i++) {
         uint8_t *q = requests + 8 * i;
         int id = 1 + i % 200;
         memset(q, 0, 8);
-        q[0] = (uint8_t)(1 + (i < 200 ? 0 : i % 5));
-        q[1] = (uint8_t)(q[0] == 2 || q[0] == 3 ? 0 : i % 3);
+        q[0] = (uint8_t)(i < 20 ? 3 + 3 * (i % 2) : i < 200 ? 1 : 1 + i % 6);
+        q[1] = (uint8_t)(q[0] == 1 || q[0] == 4 ? i % 3 : 0);
         q[2] = (uint8_t)id;
         if (q[0] != 2) {
             q[4] = (uint8_t)(1 + i * 7 % 9);
             q[5] = (uint8_t)(1 + i * 5 % 6);
         }
+        if (q[0] == 3 || q[0] == 6) {
+            q[6] = (uint8_t)(8 * (i % 8));
+            q[7] = (uint8_t)(8 * (i / 8 % 8));
+        }
     }
 }
 
-/* The first call is for the linker, which may look memset up on the way. */
+/* The first call is for the linker, which may look memset up on the way; the second
+ * is on the same surface. */
 static int depth(const char *name, void (*call)(void), int most)
 {
+    uint8_t weights_before[sizeof weights], table_before[sizeof table];
+    memcpy(weights_before, weights, sizeof weights);
+    memcpy(table_before, table, sizeof table);
     call();
+    memcpy(weights, weights_before, sizeof weights);
+    memcpy(table, table_before, sizeof table);
     memset(stack, 0xa5, sizeof stack);
     getcontext(&away);
     away.uc_stack.ss_sp = stack;

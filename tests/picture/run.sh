@@ -37,13 +37,23 @@ picture() {
     esac
 }
 
-# The drawings in "$work/drawing.*" show as many corners and maximal rectangles as the output counts.
+# The drawings show as many blocks as were set since the last clear, which alone removes them.
+count_blocks() {
+    blocks=$(awk '$1 == 0 && $2 == 5 { n = 0 } $1 == 0 && $2 == 6 { n++ } END { print n + 0 }' "$work/out")
+    said=$(sed -n 's/^blocks: //p' "$work/drawing.text")
+    listed=$(grep -c '^  @  id ' "$work/drawing.text")
+    filled=$(grep -c '^<rect.*fill="#32383f"><title>block, id ' "$work/drawing.svg")
+    [ "$said $listed $filled" = "$blocks $blocks $blocks" ] || fail "$1: blocks drawn: $said $listed $filled, set: $blocks"
+}
+
+# The drawings in "$work/drawing.*" show as many corners, maximal rectangles and blocks as the output counts.
 count_drawn() {
     set -- "$1" $(sed -n 's/^corners \([0-9]*\) list \([0-9]*\)$/\1 \2/p' "$work/out")
     corners=$(awk '/^$/ { part++ } part == 1 { n += gsub(/\+/, "") } END { print n + 0 }' "$work/drawing.text")
     entries=$(grep -c '^<rect.*stroke="#.*<title>' "$work/drawing.svg")
     triangles=$(grep -c '^<path fill="#1f2328"' "$work/drawing.svg")
     [ "$corners $entries $triangles" = "$2 $3 $(($2 + 1))" ] || fail "$1: counts drawn: $corners $entries $triangles"
+    count_blocks "$1"
     wide=$(awk 'length($0) > 120 { n++ } END { print n + 0 }' "$work/drawing.text")
     [ "$wide" -eq 0 ] || fail "$1: $wide lines are too long"
 }
@@ -96,7 +106,7 @@ grep -q '^    2  a a . +  <$' "$work/drawing.text" || fail "the program's stored
 : >"$work/in"
 draws "no input"
 grep -q '^no surface' "$work/drawing.text" && grep -q 'no surface' "$work/drawing.svg" || fail "no surface is not said"
-for bytes in 1 7 8 9 15 16 17 79; do
+for bytes in 1 7 8 9 15 16 17 95; do
     dd if="$work/example" of="$work/in" bs=1 count=$bytes 2>/dev/null
     draws "the example cut to $bytes bytes"
 done
@@ -122,7 +132,7 @@ done
 # Each figure of it changed. The replay does not judge which code a refusal has, nor which of the free places id 2 had before its exchange.
 awk '{
     for (i = 1; i <= length($0); i++)
-        if (substr($0, i, 1) ~ /[0-9]/ && !($1 ~ /^[1-9]/ && i <= length($1)) && $0 != "0 1 2 0 3 2 2") print NR, i
+        if (substr($0, i, 1) ~ /[0-9]/ && !($1 ~ /^[1-9]/ && i <= length($1)) && $0 != "0 1 2 0 0 2 2") print NR, i
 }' "$work/example.out" >"$work/figures"
 [ "$(wc -l <"$work/figures")" -gt 100 ] || fail "too few figures"
 while read -r line column; do
@@ -132,24 +142,27 @@ while read -r line column; do
 done <"$work/figures"
 
 # Other changes, one by one.
-edited 's/^0 1 5 0 1 4 2$/0 1 5 0 3 4 2/'      # another free place
+edited 's/^0 1 5 8 0 4 2$/0 1 5 0 0 4 2/'      # another free place
 edited 's/^0 1 4 4 6 3 2$/0 1 4 3 6 3 2/'      # an occupied cell
 edited 's/^0 4 2 7 7 5 1$/0 4 2 8 7 5 1/'      # off the surface
 edited 's/^0 3 3 6 1 2 2$/0 3 3 8 1 2 2/'      # not where it was pinned
 edited 's/^0 2 1 0 5 4 3$/0 2 9 0 5 4 3/'      # another id removed
-edited 's/^0 1 5 0 1 4 2$/20 1 5 0 0 0 0/'     # refused
+edited 's/^0 1 5 8 0 4 2$/20 1 5 0 0 0 0/'     # refused
 edited 's/^20 1 6 0 0 0 0$/0 1 6 6 3 6 3/'     # accepted
 edited 's/^20 1 6 0 0 0 0$/20 1 6 0 0 1 0/'    # a refusal with a place
-edited 's/^m 4 0 2 3 6$/m 4 0 2 2 4/'          # not maximal
-edited 's/^m 4 0 2 3 6$/m 3 0 2 3 6/'          # an occupied cell
-edited 's/^m 4 0 2 3 6$/m 4 0 2 3 7/'          # the area
-edited 's/^m 8 0 4 7 28$/m 8 0 5 7 35/'        # off the surface
-edited 's/^m 4 0 2 3 6$/m 4294967300 0 2 3 6/' # a number too large
-edited 's/^corners 8 /corners 7 /'
-edited 's/ list 6$/ list 5/'
-edited '/^m 4 0/d;s/ list 6$/ list 5/'         # an entry left out and not counted
-edited 's/ list 6$/ list 6 /'
-edited 's/ list 6$/ list 06/'
+edited 's/^0 6 9 10 2 2 3$/0 6 9 10 1 2 3/'    # not where the block was set
+edited 's/^0 6 9 10 2 2 3$/19 6 9 0 0 0 0/'    # the block refused
+edited 's/^23 2 9 0 0 0 0$/0 2 9 10 2 2 3/'    # the block removed
+edited 's/^m 8 2 2 5 10$/m 8 2 2 4 8/'         # not maximal
+edited 's/^m 8 2 2 5 10$/m 9 2 2 5 10/'        # an occupied cell, one of the block
+edited 's/^m 8 2 2 5 10$/m 8 2 2 5 11/'        # the area
+edited 's/^m 6 5 6 1 6$/m 6 5 7 1 7/'          # off the surface
+edited 's/^m 8 2 2 5 10$/m 4294967304 2 2 5 10/' # a number too large
+edited 's/^corners 11 /corners 10 /'
+edited 's/ list 8$/ list 7/'
+edited '/^m 8 2/d;s/ list 8$/ list 7/'         # an entry left out and not counted
+edited 's/ list 8$/ list 8 /'
+edited 's/ list 8$/ list 08/'
 edited 's/$/\r/'
 edited '1s/^/ /'
 edited '$s/$/\ncut 3/'
@@ -179,8 +192,8 @@ unfit 'the record clears 2x2' "$clear" '0 5 0 0 0 3 2,m 0 0 2 2 4,corners 1 list
 unfit 'no such clear' '05 00 00 00 41 02 00 00' '0 5 0 0 0 65 2,m 0 0 65 2 130,corners 1 list 1'
 unfit 'no such clear' '05 00 00 00 00 02 00 00' '0 5 0 0 0 0 2,corners 0 list 0'
 unfit 'not on the surface' "$one" '0 1 1 0 0 1 1,corners 0 list 0'
-unfit "module is 2x1" "$clear 01 00 01 00 02 01 00 00" "0 5 0 0 0 2 2,0 1 1 0 1 1 1,$left"
-unfit 'pins to (0,0)' "$clear 03 00 01 00 01 01 00 00" "0 5 0 0 0 2 2,0 3 1 0 1 1 1,$left"
+unfit 'size is 2x1' "$clear 01 00 01 00 02 01 00 00" "0 5 0 0 0 2 2,0 1 1 0 1 1 1,$left"
+unfit 'place is (0,0)' "$clear 03 00 01 00 01 01 00 00" "0 5 0 0 0 2 2,0 3 1 0 1 1 1,$left"
 unfit 'occupied by id 1' "$clear $one 01 00 02 00 01 01 00 00" "0 5 0 0 0 2 2,0 1 1 0 1 1 1,0 1 2 0 1 1 1,$left"
 unfit 'already placed' "$clear $one $one" '0 5 0 0 0 2 2,0 1 1 0 1 1 1,0 1 1 0 0 1 1,m 1 0 1 2 2,corners 1 list 1'
 unfit 'id 1 stands at 0 1 1 1' "$clear $one 02 00 01 00 00 00 00 00" '0 5 0 0 0 2 2,0 1 1 0 1 1 1,0 2 1 1 1 1 1,m 0 0 2 2 4,corners 1 list 1'
@@ -188,6 +201,36 @@ unfit 'id 0 is not placed' "$clear 02 00 00 00 00 00 00 00" '0 5 0 0 0 2 2,0 2 0
 unfit 'id 1 is not placed' "$clear 02 00 01 00 00 00 00 00" '0 5 0 0 0 2 2,0 2 1 0 0 0 0,m 0 0 2 2 4,corners 1 list 1'
 unfit 'id 1 is not placed' "$clear 04 00 01 00 01 01 00 00" "0 5 0 0 0 2 2,0 4 1 0 1 1 1,$left"
 unfit 'operation 9 cannot be accepted' "$clear 09 00 01 00 01 01 00 00" "0 5 0 0 0 2 2,0 9 1 0 1 1 1,$left"
+unfit 'operation 7 cannot be accepted' "$clear 07 00 01 00 01 01 00 01" "0 5 0 0 0 2 2,0 7 1 0 1 1 1,$left"
+
+# Blocks of the fabric: an id that was set is removed or exchanged by no request, and no module stands on it.
+hard='06 00 01 00 01 01 00 01'
+stood='0 5 0 0 0 2 2,0 6 1 0 1 1 1'
+unfit 'id 1 is a block' "$clear $hard 02 00 01 00 00 00 00 00" "$stood,0 2 1 0 1 1 1,m 0 0 2 2 4,corners 1 list 1"
+unfit 'id 1 is a block' "$clear $hard 04 00 01 00 01 01 00 00" "$stood,0 4 1 0 1 1 1,$left"
+unfit 'id 1 is a block' "$clear $hard 04 00 01 00 02 01 00 00" "$stood,0 4 1 0 0 2 1,m 0 1 2 1 2,corners 1 list 1"
+unfit 'already placed' "$clear $hard $one" "$stood,0 1 1 0 0 1 1,m 1 0 1 2 2,corners 1 list 1"
+unfit 'already placed' "$clear $one $hard" '0 5 0 0 0 2 2,0 1 1 0 1 1 1,0 6 1 0 1 1 1,m 1 0 1 2 2,corners 1 list 1'
+unfit 'occupied by id 1' "$clear $hard 03 00 02 00 01 01 00 01" "$stood,0 3 2 0 1 1 1,$left"
+unfit 'place is (0,1)' "$clear $hard" "0 5 0 0 0 2 2,0 6 1 1 1 1 1,m 0 0 2 1 2,m 0 0 1 2 2,corners 2 list 2"
+unfit 'size is 1x1' "$clear $hard" '0 5 0 0 0 2 2,0 6 1 0 1 2 1,m 0 0 2 1 2,corners 1 list 1'
+unfit 'not on the surface' "$hard" '0 6 1 0 1 1 1,corners 0 list 0'
+
+# What the program leaves after these records, in hex.
+leaves() {
+    echo "$2" | sh "$root/tools/picture/bytes.sh" >"$work/in" || fail "$1: no input"
+    draws "$1"
+}
+
+leaves 'a block and a module' "$clear $hard 01 00 02 00 01 01 00 00 02 00 01 00 00 00 00 00 04 00 01 00 00 00 00 00"
+grep -q '^    1  @ +  <$' "$work/drawing.text" && grep -q '^    0  b + ' "$work/drawing.text" || fail "a block and a module: the signs"
+grep -q '^  @  id 1 at (0,1), 1x1, slot 0$' "$work/drawing.text" && grep -q '^modules: 1$' "$work/drawing.text" || fail "a block and a module: the legend"
+[ "$(grep -c '^23 [24] 1 0 0 0 0$' "$work/out")" -eq 2 ] || fail "a block and a module: no 23"
+grep -q '^<path stroke="#6e7681"' "$work/drawing.svg" && grep -q '>blocks: 1<' "$work/drawing.svg" || fail "a block and a module: as SVG"
+leaves 'a block cleared' "$clear $hard $clear"
+grep -q '^blocks: 0$' "$work/drawing.text" || fail "a block cleared: it is drawn"
+leaves 'operation 6 before a clear' "$hard"
+grep -q '^8 6 1 0 0 0 0$' "$work/out" && grep -q '^no surface' "$work/drawing.text" || fail "operation 6 before a clear: not answered 8"
 
 # 256 modules fill the table; an answer that accepts one more does not fit.
 for modules in 256 257; do
@@ -205,7 +248,7 @@ grep -q 'no slot is free' "$work/message" || fail "257 modules: refused for anot
 for seed in 1 2 3 4 5 6 7 8 9 10; do
     "$work/generate" stream garbage $seed 50 >"$work/tampered"
     refuses "bytes $seed"
-    { head -n 10 "$work/example.out"; cat "$work/tampered"; } >"$work/longer" && mv "$work/longer" "$work/tampered"
+    { head -n 12 "$work/example.out"; cat "$work/tampered"; } >"$work/longer" && mv "$work/longer" "$work/tampered"
     refuses "bytes $seed after the answers"
 done
 

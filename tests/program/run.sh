@@ -57,8 +57,10 @@ printf 'abc' >"$work/in"
 compare "three bytes"
 printf '\001\000\001\000\001\001\000\000' >"$work/in"
 compare "no surface"
+printf '\006\000\001\000\001\001\000\000' >"$work/in"
+compare "no surface, operation 6"
 for seed in 1 2 3 4; do
-    for kind in random sound dense sparse exchange full garbage cut thin checker; do
+    for kind in random sound dense sparse exchange full garbage cut thin checker hard; do
         "$brute/generate" stream $kind $seed 700 >"$work/in" || fail "generate $kind $seed"
         compare "$kind $seed"
     done

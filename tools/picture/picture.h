@@ -10,8 +10,9 @@ enum { SIDE_MAX = 64, CELLS_MAX = SIDE_MAX * SIDE_MAX, SLOTS_MAX = 256 };
 /* "A rectangle is (x, y, w, h), its top left cell and its size". */
 struct rectangle { unsigned x, y, w, h; };
 
-/* A slot of the table: id 0 is no id, the slot is free. */
-struct module { unsigned id; struct rectangle place; };
+/* A slot of the table: id 0 is no id, the slot is free. `hard` is kind 1, "a block" of the fabric (order 2). Blocks count as
+ * modules for cells, weights, scanned rows and ids. */
+struct module { unsigned id; struct rectangle place; bool hard; };
 
 /* W = H = 0 where no clear was accepted: there is no surface. The weights are those of the modules after `weigh`. */
 struct surface {
@@ -37,7 +38,7 @@ bool maximal(const struct surface *s, struct rectangle r);
 bool scanned(const struct surface *s, unsigned y);
 bool corner(const struct surface *s, unsigned x, unsigned y);
 int slot_at(const struct surface *s, unsigned x, unsigned y);
-unsigned count_modules(const struct surface *s);
+unsigned count_kind(const struct surface *s, bool hard);
 unsigned count_free_cells(const struct surface *s);
 unsigned count_scanned_rows(const struct surface *s);
 unsigned count_corners(const struct surface *s);

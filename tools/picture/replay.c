@@ -7,7 +7,7 @@
 #include <string.h>
 
 enum { RECORD = 8, LINE_ROOM = 64, NUMBER_MAX = 65535 };
-enum { PLACE = 1, REMOVE = 2, PIN = 3, EXCHANGE = 4, CLEAR = 5 };
+enum { PLACE = 1, REMOVE = 2, PIN = 3, EXCHANGE = 4, CLEAR = 5, SET = 6 };
 
 /* The two files; of the output, the line read last and its number. */
 struct reading {
@@ -94,7 +94,20 @@ static struct module *find(struct surface *s, unsigned id)
     return NULL;
 }
 
-/* Clear frees all slots. */
+/* The slot with this id, which a remove or an exchange may take: "23, remove or exchange of a block". */
+static struct module *find_module(const struct reading *r, struct surface *s, unsigned id)
+{
+    struct module *slot = id == 0 ? NULL : find(s, id);
+    if (slot == NULL)
+        fault(r, "id %u is not placed", id);
+    else if (slot->hard)
+        fault(r, "id %u is a block, which only a clear removes", id);
+    else
+        return slot;
+    return NULL;
+}
+
+/* Clear frees all slots; it "removes them too", the blocks. */
 static bool replay_clear(const struct reading *r, struct surface *s, const struct answer *a, const unsigned char *record)
 {
     struct rectangle whole = { 0, 0, record[4], record[5] };
@@ -110,16 +123,16 @@ static bool replay_clear(const struct reading *r, struct surface *s, const struc
 
 static bool replay_remove(const struct reading *r, struct surface *s, const struct answer *a)
 {
-    struct module *slot = a->id == 0 ? NULL : find(s, a->id);
+    struct module *slot = find_module(r, s, a->id);
     if (slot == NULL)
-        return fault(r, "id %u is not placed", a->id);
+        return false;
     if (!same(a->place, slot->place))
         return fault(r, "id %u stands at %u %u %u %u", a->id, slot->place.x, slot->place.y, slot->place.w, slot->place.h);
     memset(slot, 0, sizeof *slot);
     return true;
 }
 
-/* A module comes to stand in this slot, where the answer says. */
+/* A module or a block comes to stand in this slot, where the answer says. */
 static bool stand(const struct reading *r, struct surface *s, struct module *slot, const struct answer *a)
 {
     if (!on_surface(s, a->place))
@@ -127,12 +140,11 @@ static bool stand(const struct reading *r, struct surface *s, struct module *slo
     for (unsigned i = 0; i < SLOTS_MAX; i++)
         if (s->slot[i].id != 0 && share_cell(s->slot[i].place, a->place))
             return fault(r, "a cell of the place is occupied by id %u", s->slot[i].id);
-    slot->id = a->id;
-    slot->place = a->place;
+    *slot = (struct module){ a->id, a->place, a->operation == SET };
     return true;
 }
 
-/* "Place and pin use the lowest free slot". */
+/* "Place and pin use the lowest free slot"; operation 6 "takes the fields of a pin and sets a block". */
 static bool replay_place(const struct reading *r, struct surface *s, const struct answer *a, const unsigned char *record)
 {
     struct module *slot = find(s, 0);
@@ -140,17 +152,17 @@ static bool replay_place(const struct reading *r, struct surface *s, const struc
         return fault(r, "id %u is no id or is already placed", a->id);
     if (slot == NULL)
         return fault(r, "no slot is free");
-    if (record[0] == PIN && (a->place.x != record[6] || a->place.y != record[7]))
-        return fault(r, "the record pins to (%u,%u)", record[6], record[7]);
+    if (record[0] != PLACE && (a->place.x != record[6] || a->place.y != record[7]))
+        return fault(r, "the record's place is (%u,%u)", record[6], record[7]);
     return stand(r, s, slot, a);
 }
 
 /* "Exchange is judged on the surface without the old module and keeps its slot". */
 static bool replay_exchange(const struct reading *r, struct surface *s, const struct answer *a)
 {
-    struct module *slot = a->id == 0 ? NULL : find(s, a->id);
+    struct module *slot = find_module(r, s, a->id);
     if (slot == NULL)
-        return fault(r, "id %u is not placed", a->id);
+        return false;
     memset(slot, 0, sizeof *slot);
     return stand(r, s, slot, a);
 }
@@ -161,10 +173,10 @@ static bool replay_accepted(const struct reading *r, struct surface *s, const st
         return replay_clear(r, s, a, record);
     if (record[0] == REMOVE)
         return replay_remove(r, s, a);
-    if (record[0] < PLACE || record[0] > EXCHANGE)
+    if (record[0] < PLACE || record[0] > SET)
         return fault(r, "operation %u cannot be accepted", record[0]);
     if (a->place.w != record[4] || a->place.h != record[5])
-        return fault(r, "the record's module is %ux%u", record[4], record[5]);
+        return fault(r, "the record's size is %ux%u", record[4], record[5]);
     return record[0] == EXCHANGE ? replay_exchange(r, s, a) : replay_place(r, s, a, record);
 }
 

@@ -97,11 +97,12 @@ int slot_at(const struct surface *s, unsigned x, unsigned y)
     return -1;
 }
 
-unsigned count_modules(const struct surface *s)
+/* The used slots of this kind: "0 a module, 1 a block". */
+unsigned count_kind(const struct surface *s, bool hard)
 {
     unsigned count = 0;
     for (unsigned i = 0; i < SLOTS_MAX; i++)
-        count += s->slot[i].id != 0;
+        count += s->slot[i].id != 0 && s->slot[i].hard == hard;
     return count;
 }
 

@@ -1,9 +1,9 @@
-/* The drawing as SVG: the cells, the modules, the maximal rectangles as outlines that lie inside one another where they
- * overlap, the corners, the scanned rows, and a legend. All lengths are whole numbers. */
+/* The drawing as SVG: the cells, the modules, the blocks, the maximal rectangles as outlines that lie inside one another
+ * where they overlap, the corners, the scanned rows, and a legend. All lengths are whole numbers. */
 #include "picture.h"
 
 enum { LEFT = 36, TOP = 36, MARKS = 30, LEGEND = 250, LINE = 20, BOTTOM = 20 };
-enum { ENTRIES_SHOWN = 20, MODULES_SHOWN = 12, HEAD_LINES = 8, LEVELS_MAX = 8 };
+enum { ENTRIES_SHOWN = 20, MODULES_SHOWN = 12, HEAD_LINES = 10, LEVELS_MAX = 8 };
 
 static const char *const inks[] = {
     "#d1242f", "#0b6bcb", "#1a7f37", "#e36209", "#8250df", "#0aa5a5",
@@ -13,6 +13,12 @@ static const char *const inks[] = {
 static const char *ink(unsigned entry)
 {
     return inks[entry % (sizeof inks / sizeof inks[0])];
+}
+
+/* Modules are filled light and rounded; blocks, `hard`, dark, square and hatched. */
+static const char *fill(bool hard)
+{
+    return hard ? "fill=\"#32383f\"" : "rx=\"3\" fill=\"#6e7f91\"";
 }
 
 /* The side of a cell. */
@@ -63,12 +69,25 @@ static unsigned figure_size(unsigned id, unsigned width, unsigned cell)
     return size < 7 ? 0 : size > most ? most : size;
 }
 
+/* A line across each cell. */
+static void hatch(struct rectangle r, unsigned cell)
+{
+    printf("<path stroke=\"#6e7681\" d=\"");
+    for (unsigned y = r.y; y < r.y + r.h; y++)
+        for (unsigned x = r.x; x < r.x + r.w; x++)
+            printf("M%u %ul%u -%u", LEFT + x * cell + 2, TOP + (y + 1) * cell - 2, cell - 4, cell - 4);
+    printf("\"/>\n");
+}
+
 static void draw_module(const struct module *m, unsigned slot, unsigned cell)
 {
     struct rectangle p = m->place;
     unsigned size = figure_size(m->id, p.w * cell, cell);
-    draw_rectangle(p, cell, 1, "rx=\"3\" fill=\"#6e7f91\">");
-    printf("<title>id %u at (%u,%u), %u×%u, slot %u</title></rect>\n", m->id, p.x, p.y, p.w, p.h, slot);
+    draw_rectangle(p, cell, 1, fill(m->hard));
+    printf("><title>%sid %u at (%u,%u), %u×%u, slot %u</title></rect>\n", m->hard ? "block, " : "", m->id, p.x, p.y, p.w, p.h,
+           slot);
+    if (m->hard)
+        hatch(p, cell);
     if (size > 0)
         printf("<text x=\"%u\" y=\"%u\" font-size=\"%u\" fill=\"#fff\" text-anchor=\"middle\">%u</text>\n",
                LEFT + p.x * cell + p.w * cell / 2, TOP + p.y * cell + p.h * cell / 2 + size * 7 / 20, size, m->id);
@@ -158,7 +177,8 @@ static unsigned lines(unsigned count, unsigned shown)
 
 static unsigned legend_height(const struct surface *s, const struct list *list)
 {
-    return LINE * (HEAD_LINES + lines(list->count, ENTRIES_SHOWN) + lines(count_modules(s), MODULES_SHOWN));
+    return LINE * (HEAD_LINES + lines(list->count, ENTRIES_SHOWN) + lines(count_kind(s, false), MODULES_SHOWN)
+                   + lines(count_kind(s, true), MODULES_SHOWN));
 }
 
 static void draw_heading(unsigned x, unsigned y, const char *what, unsigned count)
@@ -199,22 +219,22 @@ static unsigned draw_entries(const struct list *list, unsigned x, unsigned y)
     return draw_rest(list->count, ENTRIES_SHOWN, x, y);
 }
 
-static void draw_module_lines(const struct surface *s, unsigned x, unsigned y)
+static unsigned draw_kind(const struct surface *s, const char *what, bool hard, unsigned x, unsigned y)
 {
     unsigned shown = 0;
-    draw_heading(x, y, "modules", count_modules(s));
+    draw_heading(x, y, what, count_kind(s, hard));
     y += LINE;
     for (unsigned i = 0; i < SLOTS_MAX && shown < MODULES_SHOWN; i++) {
         struct rectangle m = s->slot[i].place;
-        if (s->slot[i].id == 0)
+        if (s->slot[i].id == 0 || s->slot[i].hard != hard)
             continue;
-        printf("<rect x=\"%u\" y=\"%u\" width=\"13\" height=\"11\" rx=\"2\" fill=\"#6e7f91\"/>", x, y - 10);
+        printf("<rect x=\"%u\" y=\"%u\" width=\"13\" height=\"11\" %s/>", x, y - 10, fill(hard));
         printf("<text x=\"%u\" y=\"%u\">id %u: (%u,%u) %u×%u, slot %u</text>\n", x + 22, y, s->slot[i].id, m.x, m.y, m.w,
                m.h, i);
         y += LINE;
         shown++;
     }
-    draw_rest(count_modules(s), MODULES_SHOWN, x, y);
+    return draw_rest(count_kind(s, hard), MODULES_SHOWN, x, y);
 }
 
 static void draw_legend(const struct surface *s, const struct list *list)
@@ -223,7 +243,8 @@ static void draw_legend(const struct surface *s, const struct list *list)
     printf("<g font-size=\"13\" fill=\"#1f2328\">\n");
     unsigned y = draw_head(s, x, TOP + 12);
     y = draw_entries(list, x, y);
-    draw_module_lines(s, x, y + LINE);
+    y = draw_kind(s, "modules", false, x, y + LINE);
+    draw_kind(s, "blocks", true, x, y + LINE);
     printf("</g>\n");
 }
 

@@ -1,19 +1,20 @@
-/* The drawing in a terminal: the surface, a legend of its modules, and the maximal rectangles side by side, each in a grid
- * of its own where the surface is narrow. No line is longer than 120 columns. */
+/* The drawing in a terminal: the surface, a legend of its modules and blocks, and the maximal rectangles side by side, each
+ * in a grid of its own where the surface is narrow. No line is longer than 120 columns. */
 #include "picture.h"
 
 enum { COLUMNS = 120, GAP = 3, NARROW = 16, SPACED = 48, ROOM = 80 };
 
-static char letter(unsigned slot)
+/* A module's letter or figure goes by its slot; every block has the same sign. */
+static char sign(const struct surface *s, unsigned slot)
 {
     static const char letters[] = "abcdefghijklmnopqrstuvwxyzABCDEFGHIJKLMNOPQRSTUVWXYZ0123456789";
-    return letters[slot % (sizeof letters - 1)];
+    return s->slot[slot].hard ? '@' : letters[slot % (sizeof letters - 1)];
 }
 
 static char cell(const struct surface *s, unsigned x, unsigned y)
 {
     int slot = slot_at(s, x, y);
-    return slot >= 0 ? letter((unsigned)slot) : '.';
+    return slot >= 0 ? sign(s, (unsigned)slot) : '.';
 }
 
 /* ---- the surface ----------------------------------------------------- */
@@ -47,13 +48,15 @@ static void draw_row(const struct surface *s, unsigned y)
     printf("%s\n", scanned(s, y) ? "  <" : "");
 }
 
-static void draw_modules(const struct surface *s)
+static void draw_kind(const struct surface *s, const char *what, bool hard)
 {
-    printf("\nmodules: %u\n\n", count_modules(s));
+    printf("\n%s: %u\n", what, count_kind(s, hard));
+    if (count_kind(s, hard) > 0)
+        putchar('\n');
     for (unsigned i = 0; i < SLOTS_MAX; i++) {
         struct rectangle m = s->slot[i].place;
-        if (s->slot[i].id != 0)
-            printf("  %c  id %u at (%u,%u), %ux%u, slot %u\n", letter(i), s->slot[i].id, m.x, m.y, m.w, m.h, i);
+        if (s->slot[i].id != 0 && s->slot[i].hard == hard)
+            printf("  %c  id %u at (%u,%u), %ux%u, slot %u\n", sign(s, i), s->slot[i].id, m.x, m.y, m.w, m.h, i);
     }
 }
 
@@ -76,8 +79,8 @@ static unsigned caption(const struct list *list, unsigned i, char text[ROOM])
     return (unsigned)snprintf(text, ROOM, "  %u: (%u,%u) %ux%u, area %u", i + 1, e.x, e.y, e.w, e.h, e.w * e.h);
 }
 
-/* The entries stand in blocks of this width: that of a grid or of the longest caption, and a gap. */
-static unsigned block_width(const struct surface *s, const struct list *list)
+/* The entries stand side by side, each as wide: a grid or the longest caption, and a gap. */
+static unsigned entry_width(const struct surface *s, const struct list *list)
 {
     char text[ROOM];
     unsigned width = s->W <= NARROW ? 1 + 2 * s->W : 0;
@@ -98,7 +101,7 @@ static void draw_captions(const struct list *list, unsigned first, unsigned end,
 }
 
 /* Row y of an entry's grid; its own cells are `#`. */
-static void draw_block_row(const struct surface *s, struct rectangle entry, unsigned y)
+static void draw_grid_row(const struct surface *s, struct rectangle entry, unsigned y)
 {
     putchar(' ');
     for (unsigned x = 0; x < s->W; x++)
@@ -110,7 +113,7 @@ static void draw_grids(const struct surface *s, const struct list *list, unsigne
 {
     for (unsigned y = 0; y < s->H; y++) {
         for (unsigned i = first; i < end; i++) {
-            draw_block_row(s, list->entry[i], y);
+            draw_grid_row(s, list->entry[i], y);
             printf("%*s", i + 1 < end ? (int)(width - 1 - 2 * s->W) : 0, "");
         }
         putchar('\n');
@@ -119,7 +122,7 @@ static void draw_grids(const struct surface *s, const struct list *list, unsigne
 
 static void draw_list(const struct surface *s, const struct list *list)
 {
-    unsigned width = block_width(s, list);
+    unsigned width = entry_width(s, list);
     unsigned beside = COLUMNS / width;
     printf("\nmaximal rectangles: %u\n", list->count);
     for (unsigned first = 0; first < list->count; first += beside) {
@@ -139,6 +142,7 @@ void draw_text(const struct surface *s, const struct list *list)
         return;
     }
     draw_surface(s);
-    draw_modules(s);
+    draw_kind(s, "modules", false);
+    draw_kind(s, "blocks", true);
     draw_list(s, list);
 }

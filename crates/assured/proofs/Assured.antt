@@ -5,26 +5,27 @@
 use mathlib.Core.Path.{_≡_}
 use mathlib.Core.Bool.{true, false, not, cond, _&&_}
 use mathlib.Core.Logic.{_↔_}
-use mathlib.Core.List.{List, _∷_, _++_}
+use mathlib.Core.List.{List, _∷_, _++_, List·Memᴰ}
 use mathlib.Core.Option.{some}
 use Prim.Native.Nat.{ℕ, suc, _+_, _*_, _≤_, _<_}
 use lib.Dec.{eqb}
 use lib.ListN.{length, getD}
 use Rattle.rules.specs.Tests.{count, all}
-use Rattle.rules.specs.Surface.{Standing, rect, covers, slots, rectOf, recordOf, freeRecord, withRecord, occupied, cell, fresh, usedSlots}
+use Rattle.rules.specs.Surface.{Standing, rect, covers, slots, rectOf, kindOf, freeSlot, recordOf, freeRecord, withRecord, occupied, cell, fresh, usedSlots}
 use Rattle.rules.specs.Empties.{Empty, scanned, scannedRows}
 use Rattle.rules.specs.Judging.{FirstThat}
-use Rattle.rules.specs.Requests.{idLow, idHigh, idAsked, ruleOf, wide, high, byRule, isPlace, isRemove, isPin, isExchange, makesNew, idPlaced, slotOf, lowestFree, pinned, ground, rulePlace, judging, stepOf, answerOf}
+use Rattle.rules.specs.Requests.{idLow, idHigh, idAsked, ruleOf, wide, high, byRule, isPlace, isRemove, isExchange, isSet, atPlace, makesNew, needsOld, kindAsked, idPlaced, slotOf, lowestFree, pinned, ground, rulePlace, judging, stepOf, answerOf}
+use Rattle.rules.specs.Place.{pinLines}
 use Rattle.rules.specs.Blocks.{requests, request}
 use Rattle.rules.specs.Calls.{badBlock, clearLines, checkLines, runLines, listLines, resultOf, codeOfResult, firstOfResult, secondOfResult}
 use Rattle.rules.specs.Host.{LentSurface, lent, weightsIn, bytesOf, badBytes, hostCheck, hostRun, HostClearedBy, HostListedBy}
 use Rattle.meaning.proofs.Counts.{used-few, accepted-few}
-use Rattle.demands.specs.Sound.{Sound, SlotForIt}
-use Rattle.demands.specs.History.{codeIn, placeIn, history, historyWeight}
-use Rattle.demands.specs.Told.{Told, Placed, LowestFree, SlotOfId}
+use Rattle.demands.specs.Sound.{Sound, SlotForIt, SoundTo16, asPin}
+use Rattle.demands.specs.History.{Module, codeIn, placeIn, history, historyWeight}
+use Rattle.demands.specs.Told.{Told, Placed, LowestFree, SlotOfId, HardId, HardStays}
 use Rattle.demands.specs.Frame.{OneFramed, BytesFramed}
 use Rattle.demands.specs.Listed.{HoldsList, bottomIn}
-use Rattle.demands.specs.Chain.{RunCall, NotRefused, asked, answered, upTo, joined, ones, Chain, ChainOver}
+use Rattle.demands.specs.Chain.{RunCall, NotRefused, asked, answered, upTo, joined, ones, Chain, ChainOver, Onward}
 use Rattle.demands.specs.Chain.Chain.{cleared}
 use Rattle.demands.proofs.Calls as K
 use Rattle.demands.proofs.Refusals as R
@@ -36,8 +37,8 @@ use Rattle.demands.proofs.Lists as L
 -- ==== DEMAND 1: "Bad sizes, lengths, records or a surface that contradicts itself are refused by number, in a fixed order, and a refusal changes neither the surface nor the table."
 -- (That each call ends, and reads and writes only what it was lent, is what the prover demands of every function.)
 
--- ---- the code in a result is that of the first line that applies, 0 where none does. That there is one such code, that a code names its line, is 0 exactly when none applies, and is the lowest: meaning/proofs/Theorems,
--- `first-one`, `given-exactly`, `done-exactly`, `lowest-given`, with `clear-numbers` and its like
+-- ---- the code in a result is that of the first line that applies, 0 where none does. That there is one such code, that a code names its line, and is 0 exactly when none applies: meaning/proofs/Theorems,
+-- `first-one`, `given-exactly`, `done-exactly`; of a call's codes it is the lowest (`lowest-given`, with `clear-numbers` and its like); a request's stand in the order 11 to 16, 23, 17 to 22 (`request-numbers`)
 
 pub clear-first : (W H : ℕ) (l : LentSurface) {r : ℕ} {l′ : LentSurface} → HostClearedBy W H l r l′ → FirstThat (clearLines (badBytes W H l) W H (l .table)) (codeOfResult r)
 clear-first = K.clear-first
@@ -141,31 +142,31 @@ pub stands-by-rule : (W H : ℕ) (c : RunCall W H) → NotRefused c → (k : ℕ
     byRule q ≡ true → rulePlace (occupied (ground (upTo c k .table) q)) W H (ruleOf q) (wide q) (high q) ≡ some (placeIn (answered c k))
 stands-by-rule W H c e k l ok = A.answer-stands-as c e k l ok .rule
 
-pub stands-by-pin : (W H : ℕ) (c : RunCall W H) → NotRefused c → (k : ℕ) → k < requests (c .block) → codeIn (answered c k) ≡ 0 → isPin (asked c k) ≡ true → placeIn (answered c k) ≡ pinned (asked c k)
-stands-by-pin W H c e k l ok = A.answer-stands-as c e k l ok .pin
+pub stands-by-pin : (W H : ℕ) (c : RunCall W H) → NotRefused c → (k : ℕ) → k < requests (c .block) → codeIn (answered c k) ≡ 0 → atPlace (asked c k) ≡ true → placeIn (answered c k) ≡ pinned (asked c k)
+stands-by-pin W H c e k l ok = A.answer-stands-as c e k l ok .there
 
 pub stands-there : (W H : ℕ) (c : RunCall W H) → NotRefused c → (k : ℕ) → k < requests (c .block) → codeIn (answered c k) ≡ 0 → isRemove (asked c k) ≡ false →
-    Placed (upTo c (suc k) .table) (idAsked (asked c k)) (placeIn (answered c k))
+    Placed (upTo c (suc k) .table) (idAsked (asked c k)) (placeIn (answered c k)) (kindAsked (asked c k))
 stands-there W H = A.answer-there
 
 pub removed-gone : (W H : ℕ) (c : RunCall W H) → NotRefused c → (k : ℕ) → k < requests (c .block) → codeIn (answered c k) ≡ 0 → isRemove (asked c k) ≡ true →
-    Placed (upTo c k .table) (idAsked (asked c k)) (placeIn (answered c k)) × (idPlaced (upTo c (suc k) .table) (idAsked (asked c k)) ≡ false)
+    Placed (upTo c k .table) (idAsked (asked c k)) (placeIn (answered c k)) 0 × (idPlaced (upTo c (suc k) .table) (idAsked (asked c k)) ≡ false)
 removed-gone W H = A.answer-gone
 
--- ---- "Place and pin use the lowest free slot, so a freed slot is used again. Exchange .. keeps its slot": the table is the one before the request with one record written, in the slot that was
+-- ---- "Place and pin use the lowest free slot, so a freed slot is used again. Exchange .. keeps its slot" (and a set is as a pin): the table is the one before the request with one record written, in the slot that was
 -- the lowest free one, or in the slot of the id; a remove frees that one
 
 pub lowest-slot : (W H : ℕ) (c : RunCall W H) → NotRefused c → (k : ℕ) → k < requests (c .block) → codeIn (answered c k) ≡ 0 → makesNew (asked c k) ≡ true →
     let t = upTo c k .table in
     let q = asked c k in
-    LowestFree t (lowestFree t) × (upTo c (suc k) .table ≡ withRecord t (lowestFree t) (recordOf (idLow q) (idHigh q) (placeIn (answered c k))))
+    LowestFree t (lowestFree t) × (upTo c (suc k) .table ≡ withRecord t (lowestFree t) (recordOf (idLow q) (idHigh q) (placeIn (answered c k)) (kindAsked q)))
 lowest-slot W H = A.answer-new-slot
 
 pub exchange-slot : (W H : ℕ) (c : RunCall W H) → NotRefused c → (k : ℕ) → k < requests (c .block) → codeIn (answered c k) ≡ 0 → isExchange (asked c k) ≡ true →
     let t = upTo c k .table in
     let q = asked c k in
     let i = slotOf t (idAsked q) in
-    SlotOfId t i (idAsked q) × (upTo c (suc k) .table ≡ withRecord t i (recordOf (idLow q) (idHigh q) (placeIn (answered c k))))
+    SlotOfId t i (idAsked q) × (upTo c (suc k) .table ≡ withRecord t i (recordOf (idLow q) (idHigh q) (placeIn (answered c k)) 0))
 exchange-slot W H = A.answer-exchange-slot
 
 pub remove-slot : (W H : ℕ) (c : RunCall W H) → NotRefused c → (k : ℕ) → k < requests (c .block) → codeIn (answered c k) ≡ 0 → isRemove (asked c k) ≡ true →
@@ -242,7 +243,7 @@ run-leaves-afresh W H = S.leaves-afresh
 pub chain-by-ones : (W H : ℕ) (l₀ : LentSurface) {qs : List (List ℕ)} {l : LentSurface} {a : List ℕ} {n : ℕ} → Chain W H l₀ qs l a n → Chain W H l₀ (ones (joined qs) (requests (joined qs))) l a n
 chain-by-ones = S.by-ones
 
--- the table holds exactly the modules of the history, each in its slot, and there is an answer to each request
+-- the table holds exactly the modules and blocks of the history, each in its slot and of its kind, and there is an answer to each request
 pub chain-told : (W H : ℕ) (l₀ : LentSurface) {qs : List (List ℕ)} {l : LentSurface} {a : List ℕ} {n : ℕ} → Chain W H l₀ qs l a n → Told (history (joined qs) a (requests (joined qs))) (l .table)
 chain-told = C.chain-told
 
@@ -313,3 +314,67 @@ room-enough-done = L.room-enough-done
 pub chain-room-enough : (W H : ℕ) (l : LentSurface) (room : List ℕ) {r : ℕ} {room′ : List ℕ} → HostListedBy W H l room r room′ → 8 * (W * scannedRows H (l .table)) ≤ length room →
     {l₀ : LentSurface} {qs : List (List ℕ)} {a : List ℕ} {n : ℕ} → Chain W H l₀ qs l a n → codeOfResult r ≡ 0
 chain-room-enough = L.chain-room-enough
+
+-- ==== ORDER 2: "Our next device has hard blocks that no trigger may use. Byte 6 of a table record becomes its kind: 0 a module, 1 a block." (Demands 1 to 3 above are of tables with blocks among
+-- the modules; a request is sound when none of 11 to 17 and 23 applies.)
+
+-- ---- whatever is asked for, each block stays where it is, byte for byte: after each request; after any run, a refused one too; after any runs, up to the next clear. "Clear removes them too"
+
+pub hard-stays-request : (W H : ℕ) (c : RunCall W H) → NotRefused c → (k : ℕ) → k < requests (c .block) → HardStays (upTo c k .table) (upTo c (suc k) .table)
+hard-stays-request W H = A.answer-hard-stays
+
+pub hard-stays : (W H : ℕ) (c : RunCall W H) → HardStays (c .lent .table) (c .left .table)
+hard-stays W H = S.hard-stays
+
+pub hard-stays-on : (W H : ℕ) {l l′ : LentSurface} → Onward W H l l′ → HardStays (l .table) (l′ .table)
+hard-stays-on W H = S.hard-stays-on
+
+pub clear-frees : (W H : ℕ) (l : LentSurface) {r : ℕ} {l′ : LentSurface} → HostClearedBy W H l r l′ → codeOfResult r ≡ 0 → (i : ℕ) → freeSlot (l′ .table) i ≡ true
+clear-frees = S.clear-frees
+
+-- in a chain: what the history has once told of a block it tells after every later request (and the table has it in that slot: `chain-told`, `after-each-request-told`)
+pub chain-hard-stays : (W H : ℕ) (l₀ : LentSurface) {qs : List (List ℕ)} {l : LentSurface} {a : List ℕ} {n : ℕ} → Chain W H l₀ qs l a n →
+    (j k : ℕ) → j ≤ k → k ≤ requests (joined qs) → (m : Module) → m .kind ≡ 1 → List·Memᴰ m (history (joined qs) a j) → List·Memᴰ m (history (joined qs) a k)
+chain-hard-stays = C.chain-hard-stays
+
+-- what an accepted request puts in shares no cell with a block that was there; and in every table that a call goes through no module, and no other block, shares a cell with a block
+pub hard-clear : (W H : ℕ) (c : RunCall W H) → NotRefused c → (k : ℕ) → k < requests (c .block) → codeIn (answered c k) ≡ 0 →
+    let t = upTo c k .table in
+    (i : ℕ) → kindOf t i ≡ 1 → (x y : ℕ) → covers (rectOf t i) x y ≡ true → covers (placeIn (answered c k)) x y ≡ false
+hard-clear W H = A.answer-hard-clear
+
+pub hard-apart : (W H : ℕ) (c : RunCall W H) → NotRefused c → (k : ℕ) →
+    let t = upTo c k .table in
+    (i j : ℕ) → (i ≡ j → ⊥) → kindOf t i ≡ 1 → freeSlot t j ≡ false → (x y : ℕ) → covers (rectOf t i) x y ≡ true → covers (rectOf t j) x y ≡ false
+hard-apart W H = S.hard-apart
+
+-- ---- "23, remove or exchange of a block, follows 16": it is given exactly to a remove or an exchange to which none of 11 to 16 applies and whose id is a block's
+
+pub hard-code : (W H : ℕ) (c : RunCall W H) → NotRefused c → (k : ℕ) → k < requests (c .block) →
+    let t = upTo c k .table in
+    let q = asked c k in
+    (codeIn (answered c k) ≡ 23) ↔ ((needsOld q ≡ true) × SoundTo16 t q × HardId t (idAsked q))
+hard-code W H = A.answer-hard-code
+
+-- ---- "New operation 6 takes the fields of a pin and sets a block, with a pin's refusals in the same order": the code of a pin and of a set is that of the first of the same lines that applies
+
+pub at-place-first : (W H : ℕ) (c : RunCall W H) → NotRefused c → (k : ℕ) → k < requests (c .block) → atPlace (asked c k) ≡ true →
+    FirstThat (pinLines W H (upTo c k .table) (asked c k)) (codeIn (answered c k))
+at-place-first W H = A.answer-at-place-first
+
+-- so a set, and the pin with the same fields, on the same table, are answered the same code and place. (Of the definitions, on every table: meaning/proofs/Theorems, `pin-step`, `set-step`)
+pub set-as-pin : (W H : ℕ) (c c′ : RunCall W H) → NotRefused c → NotRefused c′ → (k k′ : ℕ) → k < requests (c .block) → k′ < requests (c′ .block) →
+    upTo c′ k′ .table ≡ upTo c k .table → isSet (asked c k) ≡ true → asked c′ k′ ≡ asPin (asked c k) →
+    (codeIn (answered c k) ≡ codeIn (answered c′ k′)) × (placeIn (answered c k) ≡ placeIn (answered c′ k′))
+set-as-pin W H = A.answer-set-as-pin
+
+-- an accepted set puts its block where it says, into the lowest free slot, of kind 1; what place, pin and exchange put in is of kind 0
+pub set-stands : (W H : ℕ) (c : RunCall W H) → NotRefused c → (k : ℕ) → k < requests (c .block) → codeIn (answered c k) ≡ 0 → isSet (asked c k) ≡ true →
+    let t = upTo c k .table in
+    let q = asked c k in
+    (placeIn (answered c k) ≡ pinned q) × LowestFree t (lowestFree t) × (upTo c (suc k) .table ≡ withRecord t (lowestFree t) (recordOf (idLow q) (idHigh q) (pinned q) 1))
+set-stands W H = A.answer-set-stands
+
+pub others-stand : (W H : ℕ) (c : RunCall W H) → NotRefused c → (k : ℕ) → k < requests (c .block) → codeIn (answered c k) ≡ 0 → isRemove (asked c k) ≡ false → isSet (asked c k) ≡ false →
+    Placed (upTo c (suc k) .table) (idAsked (asked c k)) (placeIn (answered c k)) 0
+others-stand W H = A.answer-others-stand

@@ -5,7 +5,7 @@ use mathlib.Core.List.{List, [], _∷_, List·Memᴰ, List·Memᴰ·head, List·
 use Prim.Native.Nat.{ℕ, _<_}
 use borrow.Author.Tests.{not-true}
 use lib.IntN.{ℤ, pos, negℤ}
-use Rattle.rules.specs.Surface.{Standing, covers, slots, idOf, rectOf, freeSlot, holds, occupied, holder, upwards, number, weight, cell}
+use Rattle.rules.specs.Surface.{Standing, covers, slots, idOf, rectOf, kindOf, freeSlot, holds, occupied, holder, upwards, number, weight, cell}
 use Rattle.rules.proofs.Tests.{and-both, not-both, fails, or-left, or-right, any-at, any-yes}
 use Rattle.meaning.proofs.Splits.{split, by-test, by-same, by-cons}
 use Rattle.meaning.proofs.Weights.{holds-covers, holds-used, holder-low, holder-holds, weight-number, weight-empty, stands-cell}
@@ -62,7 +62,7 @@ module _ (h : List Module) (t : List ℕ) (d : Told h t) where
       (λ e.
       let k = any-at (slots t) (holds t x y) e in
       let i = k .0 in
-      taken-yes x y h (moduleAt i (idOf t i) (rectOf t i))
+      taken-yes x y h (moduleAt i (idOf t i) (rectOf t i) (kindOf t i))
       (at-slot h t d i (k .1) (not-true (freeSlot t i) (holds-used t x y i (k .2))))
       (holds-covers t x y i (k .2)))
 

@@ -5,33 +5,38 @@ use mathlib.Core.Logic.{_↔_}
 use mathlib.Core.List.{List}
 use Prim.Native.Nat.{ℕ, suc, _+_, _*_, _≤_, _<_}
 use native.Mathlib.Omega.{arith}
-use borrow.Author.Tests.{ne-eqb}
+use borrow.Author.Tests.{eqb-true, ne-eqb}
 use lib.Dec.{eqb}
 use lib.IntN.{ℤ}
 use lib.ListN.{getD, drop}
 use lib.Seq.{getD-take, getD-drop}
-use Rattle.rules.specs.Judging.{FirstThat}
-use Rattle.rules.specs.Surface.{rect, slots, covers, idOf, rectOf, recordOf, freeRecord, freeSlot, withRecord, occupied}
+use Rattle.rules.specs.Judging.{first, FirstThat}
+use Rattle.rules.specs.Surface.{rect, slots, covers, rectOf, kindOf, recordOf, freeRecord, freeSlot, withRecord, occupied}
 use Rattle.rules.specs.Empties.{Empty}
-use Rattle.rules.specs.Requests.{idLow, idHigh, idAsked, wide, high, byRule, isRemove, isExchange, makesNew, idPlaced, slotOf, lowestFree, ground, judging, stepOf, codeOf, valuesOf, answerOf, tableAfter, acceptedOne}
+use Rattle.rules.specs.Requests.{operation, kindAsked, idLow, idHigh, idAsked, wide, high, byRule, isPlace, isRemove, isPin, isExchange, isSet, atPlace, makesNew, needsOld, pinned, judgedTo, idPlaced, slotOf, lowestFree, ground, judging, stepOf, codeOf, valuesOf, answerOf, tableAfter, acceptedOne}
+use Rattle.rules.specs.Place.{pinLines, pinStep}
 use Rattle.rules.specs.Blocks.{requests, request, nextBy, afterBy}
 use Rattle.rules.specs.Host.{weightsIn}
 use Rattle.rules.specs.declared.Rect.{Rect}
 use Rattle.rules.specs.declared.Step.{Step}
 use Rattle.rules.specs.declared.Step.the-variants.{Refused, Done}
-use Rattle.rules.proofs.Tests.{not-both, least-is}
-use Rattle.meaning.specs.Change.{Change, Taking}
+use Rattle.rules.proofs.Tests.{or-right, not-both, least-is}
+use Rattle.meaning.specs.Change.{Change, OldModule}
 use Rattle.meaning.specs.Change.Change.{puts, takes, swaps}
+use Rattle.meaning.proofs.Splits.{by-same}
+use Rattle.meaning.proofs.First.{first-is}
 use Rattle.meaning.proofs.Changes.{id-gone}
-use Rattle.meaning.proofs.Steps.{refused-code, rules-step, change, put-leaves, take-leaves, swap-leaves}
-use Rattle.demands.specs.Sound.{Sound, SlotForIt}
+use Rattle.meaning.proofs.Theorems.{pin-step, set-step}
+use Rattle.meaning.proofs.Steps.{refused-code, rules-step, module-kind, change, put-leaves, take-leaves, swap-leaves}
+use Rattle.demands.specs.Sound.{Sound, SlotForIt, SoundTo16, asPin}
 use Rattle.demands.specs.History.{moduleAt, codeIn, placeIn}
-use Rattle.demands.specs.Told.{HasModule, Placed, LowestFree, SlotOfId}
+use Rattle.demands.specs.Told.{HasModule, Placed, LowestFree, SlotOfId, HardId, HardStays}
 use Rattle.demands.specs.Frame.{OneFramed}
 use Rattle.demands.specs.Chain.{RunCall, NotRefused, asked, answered, upTo}
 use Rattle.demands.proofs.Refusals as R
 use Rattle.demands.proofs.Refusals.{StandsAs, stands-as}
 use Rattle.demands.proofs.Told.{put-has}
+use Rattle.demands.proofs.Hard.{hard-step, change-clear}
 use Rattle.demands.proofs.Blocks.{answers-at, framed-after}
 use Rattle.demands.proofs.Chains.{call-stands, call-answers, each-stands}
 
@@ -43,6 +48,10 @@ code-byte a k = let e : 8 * k + 0 ≡ 8 * k = omega arith in getD-take 8 (drop (
 accepted : (d : Step) → ((c : ℕ) → d ≡ Refused c → 11 ≤ c) → codeOf d ≡ 0 → (i : ℕ) × (d ≡ Done i (valuesOf d))
 accepted (Refused c) h e = absurd (omega (arith, h c refl, e))
 accepted (Done i r) h e = (i, refl)
+
+-- the code of what is judged
+judged-code : (c i : ℕ) (r : Rect) → codeOf (judgedTo c (Done i r)) ≡ c
+judged-code c i r = by-same c 0 (λ e. rw e) (λ ne. rw (ne-eqb c 0 ne))
 
 -- what is counted of a step is 1 where its code is 0
 counted : (d : Step) → ((c : ℕ) → d ≡ Refused c → 11 ≤ c) → acceptedOne d ≡ cond (eqb (codeOf d) 0) 1 0
@@ -95,6 +104,21 @@ module _ {W H : ℕ} (c : RunCall W H) (e : NotRefused c) (k : ℕ) (l : k < req
       let b = R.no-position (occupied (ground t q)) W H (wide q) (high q) in
       (λ ne. b .0 (a .0 (λ z. ne (code-is ∙ z))), λ f z. a .1 (b .1 f) (sym code-is ∙ z))
 
+  -- ---- blocks of the fabric
+
+  pub answer-hard-stays : HardStays t then
+  unfolding afterBy nextBy
+  answer-hard-stays = hard-step W H q (upTo c k) (stepOf W H t q) (rules-step W H t q) (each-stands c e k)
+
+  pub answer-hard-code : (codeIn (answered c k) ≡ 23) ↔ ((needsOld q ≡ true) × SoundTo16 t q × HardId t (idAsked q))
+  answer-hard-code = let x = R.hard-exactly W H s t q (each-stands c e k) in (λ z. x .0 (sym code-is ∙ z), λ h. code-is ∙ x .1 h)
+
+  -- a pin and a set
+  pub answer-at-place-first : atPlace q ≡ true → FirstThat (pinLines W H t q) (codeIn (answered c k))
+  unfolding pinStep
+  answer-at-place-first a =
+      rw (code-is ∙ ap codeOf (pin-step W H t q a) ∙ judged-code (first (pinLines W H t q)) (lowestFree t) (pinned q)) (first-is (pinLines W H t q))
+
   -- ---- an accepted one has a slot, and the rectangle that its answer names
 
   module _ (ok : codeIn (answered c k) ≡ 0) where
@@ -118,56 +142,81 @@ module _ {W H : ℕ} (c : RunCall W H) (e : NotRefused c) (k : ℕ) (l : k < req
     pub answer-stands-as : StandsAs W H t q r
     answer-stands-as = stands-as W H s t q (each-stands c e k) i r (accepted-at .1)
 
-    pub answer-there : isRemove q ≡ false → Placed then (idAsked q) r
+    pub answer-there : isRemove q ≡ false → Placed then (idAsked q) r (kindAsked q)
     answer-there f =
-        let at : (u : List ℕ) → tableAfter q (Done i r) t ≡ u → HasModule u (moduleAt i (idAsked q) r) → Placed then (idAsked q) r =
-        λ u e h. record { slot = i; has = subst (λ u. HasModule u (moduleAt i (idAsked q) r)) (sym (leaves ∙ e)) h } in
+        let m = moduleAt i (idAsked q) r (kindAsked q) in
+        let at : (u : List ℕ) → tableAfter q (Done i r) t ≡ u → HasModule u m → Placed then (idAsked q) r (kindAsked q) =
+        λ u e h. record { slot = i; has = subst (λ u. HasModule u m) (sym (leaves ∙ e)) h } in
         elim did [
-          | puts n m p ↦ at _ (put-leaves W H s t q i r (n .noRemove)) (put-has W H s t i (idLow q) (idHigh q) r p)
-          | takes o x m id z p ↦ not-both (isRemove q) o f
-          | swaps o x m id p n ↦ at _ (swap-leaves W H s t q i r o p) (put-has W H _ _ i (idLow q) (idHigh q) r n)
+          | puts n l p ↦ at _ (put-leaves W H s t q i r (n .noRemove)) (put-has W H s t i (idLow q) (idHigh q) r (kindAsked q) p)
+          | takes o x p z ↦ not-both (isRemove q) o f
+          | swaps o x p n ↦ at _ (swap-leaves W H s t q i r o (p .taking)) (put-has W H _ _ i (idLow q) (idHigh q) r (kindAsked q) n)
         ]
 
-    pub answer-gone : isRemove q ≡ true → Placed t (idAsked q) r × (idPlaced then (idAsked q) ≡ false)
+    pub answer-gone : isRemove q ≡ true → Placed t (idAsked q) r 0 × (idPlaced then (idAsked q) ≡ false)
     answer-gone f = elim did [
       | puts n m p ↦ not-both (isRemove q) f (n .noRemove)
-      | takes o x m id z p ↦ (
-        record { slot = i; has = record { low = p .slot; used = p .used; id = id; place = sym z } },
-        ap₂ idPlaced (leaves ∙ take-leaves W H s t q i r o) (sym id) ∙ id-gone W H s t i p,
+      | takes o x p z ↦ (
+        record { slot = i; has = record { low = p .taking .slot; used = p .taking .used; id = p .named; place = sym z; kind = module-kind W H s t q i p } },
+        ap₂ idPlaced (leaves ∙ take-leaves W H s t q i r o) (sym (p .named)) ∙ id-gone W H s t i (p .taking),
       )
-      | swaps o x m id p n ↦ not-both (isRemove q) f o
+      | swaps o x p n ↦ not-both (isRemove q) f o
     ]
 
     -- ---- its record stands in the lowest free slot, or in its own
 
-    its : i ≡ slotOf t (idAsked q) → idOf t i ≡ idAsked q → Taking W H s t i → SlotOfId t (slotOf t (idAsked q)) (idAsked q)
-    its m id p = subst (λ j. SlotOfId t j (idAsked q)) m (record { slot = p .slot; used = p .used; named = id })
+    its : OldModule W H s t q i → SlotOfId t (slotOf t (idAsked q)) (idAsked q)
+    its p = subst (λ j. SlotOfId t j (idAsked q)) (p .at) (record { slot = p .taking .slot; used = p .taking .used; named = p .named })
 
-    pub answer-new-slot : makesNew q ≡ true → LowestFree t (lowestFree t) × (then ≡ withRecord t (lowestFree t) (recordOf (idLow q) (idHigh q) r))
+    pub answer-new-slot : makesNew q ≡ true → LowestFree t (lowestFree t) × (then ≡ withRecord t (lowestFree t) (recordOf (idLow q) (idHigh q) r (kindAsked q)))
     unfolding lowestFree
     answer-new-slot f = elim did [
       | puts n m p ↦ (
         subst (LowestFree t) m (record { slot = p .slot; free = p .unused; before = λ j h. least-is (slots t) (freeSlot t) .before j (omega arith) (subst (λ a. j < a) m h) }),
-        leaves ∙ put-leaves W H s t q i r (n .noRemove) ∙ ap (λ j. withRecord t j (recordOf (idLow q) (idHigh q) r)) m,
+        leaves ∙ put-leaves W H s t q i r (n .noRemove) ∙ ap (λ j. withRecord t j (recordOf (idLow q) (idHigh q) r (kindAsked q))) m,
       )
-      | takes o x m id z p ↦ not-both (makesNew q) f (R.old-not-new q (ap₂ _||_ o x))
-      | swaps o x m id p n ↦ not-both (makesNew q) f (R.old-not-new q (ap₂ _||_ o x))
+      | takes o x p z ↦ not-both (makesNew q) f (R.old-not-new q (ap₂ _||_ o x))
+      | swaps o x p n ↦ not-both (makesNew q) f (R.old-not-new q (ap₂ _||_ o x))
     ]
 
-    pub answer-exchange-slot : isExchange q ≡ true → SlotOfId t (slotOf t (idAsked q)) (idAsked q) × (then ≡ withRecord t (slotOf t (idAsked q)) (recordOf (idLow q) (idHigh q) r))
+    pub answer-exchange-slot : isExchange q ≡ true → SlotOfId t (slotOf t (idAsked q)) (idAsked q) × (then ≡ withRecord t (slotOf t (idAsked q)) (recordOf (idLow q) (idHigh q) r 0))
     answer-exchange-slot f = elim did [
       | puts n m p ↦ not-both (isExchange q) f (n .noExchange)
-      | takes o x m id z p ↦ not-both (isExchange q) f x
-      | swaps o x m id p n ↦ (its m id p, leaves ∙ put-leaves W H s t q i r o ∙ ap (λ j. withRecord t j (recordOf (idLow q) (idHigh q) r)) m)
+      | takes o x p z ↦ not-both (isExchange q) f x
+      | swaps o x p n ↦ (its p, leaves ∙ put-leaves W H s t q i r o ∙ ap₂ (λ j k. withRecord t j (recordOf (idLow q) (idHigh q) r k)) (p .at) (ap {B = ℕ} (λ n. cond (eqb n 6) 1 0) (eqb-true (operation q) 4 x)))
     ]
 
     pub answer-freed-slot : isRemove q ≡ true → SlotOfId t (slotOf t (idAsked q)) (idAsked q) × (then ≡ withRecord t (slotOf t (idAsked q)) freeRecord)
     answer-freed-slot f = elim did [
       | puts n m p ↦ not-both (isRemove q) f (n .noRemove)
-      | takes o x m id z p ↦ (its m id p, leaves ∙ take-leaves W H s t q i r o ∙ ap (λ j. withRecord t j freeRecord) m)
-      | swaps o x m id p n ↦ not-both (isRemove q) f o
+      | takes o x p z ↦ (its p, leaves ∙ take-leaves W H s t q i r o ∙ ap (λ j. withRecord t j freeRecord) (p .at))
+      | swaps o x p n ↦ not-both (isRemove q) f o
     ]
+
+    -- ---- blocks of the fabric
+
+    pub answer-hard-clear : (j : ℕ) → kindOf t j ≡ 1 → (x y : ℕ) → covers (rectOf t j) x y ≡ true → covers r x y ≡ false
+    answer-hard-clear = change-clear W H s t q i r (each-stands c e k) did
+
+    pub answer-set-stands : isSet q ≡ true → (r ≡ pinned q) × LowestFree t (lowestFree t) × (then ≡ withRecord t (lowestFree t) (recordOf (idLow q) (idHigh q) (pinned q) 1))
+    answer-set-stands f =
+        let a : atPlace q ≡ true = or-right (isPin q) (isSet q) f in
+        let p = answer-stands-as .there a in
+        let w = answer-new-slot (or-right (isPlace q) (atPlace q) a) in
+        (p, w .0, w .1 ∙ ap₂ (λ r k. withRecord t (lowestFree t) (recordOf (idLow q) (idHigh q) r k)) p (ap {B = ℕ} (λ b. cond b 1 0) f))
+
+    pub answer-others-stand : isRemove q ≡ false → isSet q ≡ false → Placed then (idAsked q) r 0
+    answer-others-stand f g = subst (Placed then (idAsked q) r) (ap {B = ℕ} (λ b. cond b 1 0) g) (answer-there f)
 
     pub answer-frame : OneFramed W H q r (upTo c k) (upTo c (suc k))
     answer-frame =
         record { slot = i; framed = framed-after (stepOf W H) W H (c .block) (weightsIn (c .lent)) (c .lent .table) (rules-step W H) (call-stands c e) k i r (accepted-at .1) }
+
+-- A SET IS ANSWERED AS THE PIN WITH THE SAME FIELDS, on the same table
+pub answer-set-as-pin : {W H : ℕ} (c c′ : RunCall W H) (e : NotRefused c) (e′ : NotRefused c′) (k k′ : ℕ) → k < requests (c .block) → k′ < requests (c′ .block) →
+    upTo c′ k′ .table ≡ upTo c k .table → isSet (asked c k) ≡ true → asked c′ k′ ≡ asPin (asked c k) →
+    (codeIn (answered c k) ≡ codeIn (answered c′ k′)) × (placeIn (answered c k) ≡ placeIn (answered c′ k′))
+answer-set-as-pin {W} {H} c c′ e e′ k k′ l l′ t f g =
+    let d : stepOf W H (upTo c k .table) (asked c k) ≡ stepOf W H (upTo c′ k′ .table) (asked c′ k′) =
+    set-step W H (upTo c k .table) (asked c k) f ∙ sym (ap₂ (λ t q. stepOf W H t q) t g) in
+    (ap codeIn (answer-is c e k l) ∙ ap codeOf d ∙ sym (ap codeIn (answer-is c′ e′ k′ l′)), ap placeIn (answer-is c e k l) ∙ ap valuesOf d ∙ sym (ap placeIn (answer-is c′ e′ k′ l′)))

@@ -2,7 +2,7 @@
 -- every weight is the one worked out afresh, and another cut of the same requests has left the same. Assumes nothing.
 use mathlib.Core.Path.{_≡_, refl, sym, ap, ap₂, _∙_, subst}
 use mathlib.Core.Bool.{Bool, true, false, not, _||_}
-use mathlib.Core.List.{List, [], _∷_, _++_}
+use mathlib.Core.List.{List, [], _∷_, _++_, List·Memᴰ}
 use Prim.Native.Nat.{ℕ, _+_, _*_, _/_, _%_, _≤_, _<_}
 use native.Mathlib.Omega.{arith}
 use borrow.Author.Tests.{le-leb, eq-eqb, not-true}
@@ -19,12 +19,13 @@ use Rattle.rules.proofs.Tests.{and-left, and-right, and-both}
 use Rattle.meaning.proofs.Steps.{after-stands, rules-step}
 use Rattle.meaning.proofs.Bytes.{length-bytesOf}
 use Rattle.meaning.proofs.Rounds.{standing-round}
-use Rattle.demands.specs.History.{history, historyWeight}
+use Rattle.demands.specs.History.{Module, history, historyWeight}
 use Rattle.demands.specs.Told.{Told}
 use Rattle.demands.specs.Chain.{RunCall, NotRefused, upTo, joined, Chain, ChainOver}
 use Rattle.demands.specs.Chain.Chain.{cleared, block}
 use Rattle.demands.proofs.Stands.{cleared-stands, cleared-free}
 use Rattle.demands.proofs.Blocks.{requests-both, after-right, after-behind, answers-long, told-after, afresh-after}
+use Rattle.demands.proofs.Hard.{hard-after, stays-has}
 use Rattle.demands.proofs.Calls.{clear-code, clear-leaves, run-code, run-block, run-stands, run-left, run-answers, run-counts}
 
 state-is : {w v : List ℤ} {t u : List ℕ} {a b : List ℕ} {m n : ℕ} → w ≡ v → t ≡ u → a ≡ b → m ≡ n →
@@ -134,6 +135,13 @@ module _ (W H : ℕ) (l₀ : LentSurface) where
 
     pub chain-told : Told (history asked a (requests asked)) (l .table)
     chain-told = subst (Told (history asked a (requests asked))) (ap (λ (v : State). v .table) (came-to z .state)) (told-at (requests asked) (omega arith))
+
+    -- A BLOCK THAT THE HISTORY HAS ONCE TOLD IT TELLS AFTER EVERY LATER REQUEST
+    pub chain-hard-stays : (j k : ℕ) → j ≤ k → k ≤ requests asked → (m : Module) → m .kind ≡ 1 → List·Memᴰ m (history asked a j) → List·Memᴰ m (history asked a k)
+    chain-hard-stays j k l h m e w =
+        let d = came-to z .stands in
+        told-at k h .exact m .1
+        (stays-has (after W H asked start j .table) (after W H asked start k .table) (hard-after (stepOf W H) W H (rules-step W H) asked start d j k l) (after-stands W H asked start d k) m e (told-at j (omega arith) .exact m .0 w))
 
     pub chain-afresh : (x y : ℕ) → x < W → y < H → cell W (weightsIn l) x y ≡ historyWeight (history asked a (requests asked)) x y
     chain-afresh x y hx hy = sym (ap (λ (v : State). cell W (v .weights) x y) (came-to z .state)) ∙ afresh-at (requests asked) (omega arith) x y hx hy

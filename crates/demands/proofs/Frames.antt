@@ -10,12 +10,12 @@ use lib.ListN.{length}
 use lib.Seq.{length-sets}
 use Rattle.rules.specs.Tests.{eqZ}
 use Rattle.rules.specs.Surface.{slots, rectOf, recordOf, freeRecord, withRecord, cell, fresh, occupied}
-use Rattle.rules.specs.Requests.{idLow, idHigh, idAsked, slotOf, stepOf, recordAfter, needsOld, isRemove}
+use Rattle.rules.specs.Requests.{idLow, idHigh, kindAsked, idAsked, slotOf, stepOf, recordAfter, needsOld}
 use Rattle.rules.specs.Blocks.{State, withStep}
 use Rattle.rules.specs.declared.Rect.{Rect}
 use Rattle.rules.specs.declared.Step.the-variants.{Done}
 use Rattle.rules.proofs.Tests.{eqZ-true, eqZ-same, not-both, fails}
-use Rattle.meaning.proofs.Splits.{split, by-test, by-less}
+use Rattle.meaning.proofs.Splits.{by-test, by-less}
 use Rattle.meaning.specs.Change.Change.{puts, takes, swaps}
 use Rattle.meaning.specs.Change.{Spared, StepOrRefusal, Change}
 use Rattle.demands.specs.Frame.{Reached, bare, MayChange, Framed}
@@ -23,7 +23,7 @@ use Rattle.meaning.proofs.Tables.{sets-low, sets-high}
 use Rattle.meaning.specs.Change.Spared.{aside, higher, past}
 use Rattle.meaning.proofs.Changes.{put-frame, take-frame}
 use Rattle.demands.specs.Frame.MayChange.{ofModule, ofOld}
-use Rattle.meaning.proofs.Steps.{StateStands, change, accepted-as, put-leaves, take-leaves, swap-leaves}
+use Rattle.meaning.proofs.Steps.{StateStands, change, accepted-as, record-eight, put-leaves, take-leaves, swap-leaves}
 
 -- WHAT FAILS TO BE THE SAME IS NOT OUT OF THE MODULE'S REACH: it is in it
 reached : (m : Rect) (t : List ℕ) (c r : ℕ) (Same : Type 0) → (Spared m t c r → Same) → (Same → ⊥) → Reached m t c r
@@ -45,15 +45,12 @@ module _ (W H : ℕ) (q : List ℕ) (a : State) (i : ℕ) (r : Rect) (d : StateS
   abbrev end : State
   end = withStep W H q (Done i r) a
 
-  eight : length (recordAfter q r) ≡ 8
-  eight = split (λ l. length l ≡ 8) (isRemove q) (λ e. refl) (λ e. refl)
-
   framed : i < slots t → ((c y : ℕ) → c < W → y < H → (cell W (end .weights) c y ≡ cell W s c y → ⊥) → MayChange t q r c y) → Framed W H q i r a end
   framed l f = record {
     slot = l;
     long = length-sets t (8 * i) (recordAfter q r);
     bytes = λ k o.
-        ⊎-elim (sets-low 0 (recordAfter q r) t (8 * i) k) (λ (hi : 8 * i + 8 ≤ k). sets-high 0 (recordAfter q r) t (8 * i) k (omega (arith, eight))) o;
+        ⊎-elim (sets-low 0 (recordAfter q r) t (8 * i) k) (λ (hi : 8 * i + 8 ≤ k). sets-high 0 (recordAfter q r) t (8 * i) k (omega (arith, record-eight q r))) o;
     weights = f;
   }
 
@@ -65,21 +62,21 @@ module _ (W H : ℕ) (q : List ℕ) (a : State) (i : ℕ) (r : Rect) (d : StateS
   go : Change W H s t q i r → Framed W H q i r a end
   go (puts n l p) = framed (p .slot) (λ c y hc hy ne.
       ofModule (subst (λ u. Reached r u c y) (sym (bare-is false (ap₂ _||_ (n .noRemove) (n .noExchange))))
-      (reached r t c y _ (put-frame W H s t i (idLow q) (idHigh q) r p c y hc hy) (λ k. ne (ap (λ u. cell W (fresh W H u) c y) (put-leaves W H s t q i r (n .noRemove)) ∙ k)))))
-  go (takes o x l id m p) = framed (p .slot) (λ c y hc hy ne.
-      ofModule (subst₂ (λ v u. Reached v u c y) (sym m) (ap (λ j. withRecord t j freeRecord) l ∙ sym (bare-is true (ap₂ _||_ o x)))
-      (reached (rectOf t i) (withRecord t i freeRecord) c y _ (take-frame W H s t i p c y hc hy) (λ k. ne (ap (λ u. cell W (fresh W H u) c y) (take-leaves W H s t q i r o) ∙ k)))))
-  go (swaps o x l id p n) = framed (p .slot) (λ c y hc hy ne.
+      (reached r t c y _ (put-frame W H s t i (idLow q) (idHigh q) r (kindAsked q) p c y hc hy) (λ k. ne (ap (λ u. cell W (fresh W H u) c y) (put-leaves W H s t q i r (n .noRemove)) ∙ k)))))
+  go (takes o x p m) = framed (p .taking .slot) (λ c y hc hy ne.
+      ofModule (subst₂ (λ v u. Reached v u c y) (sym m) (ap (λ j. withRecord t j freeRecord) (p .at) ∙ sym (bare-is true (ap₂ _||_ o x)))
+      (reached (rectOf t i) (withRecord t i freeRecord) c y _ (take-frame W H s t i (p .taking) c y hc hy) (λ k. ne (ap (λ u. cell W (fresh W H u) c y) (take-leaves W H s t q i r o) ∙ k)))))
+  go (swaps o x p n) = framed (p .taking .slot) (λ c y hc hy ne.
       let u = withRecord t i freeRecord in
-      let g : u ≡ bare t q = ap (λ j. withRecord t j freeRecord) l ∙ sym (bare-is true (ap₂ _||_ o x)) in
-      let w : cell W (end .weights) c y ≡ cell W (fresh W H (withRecord u i (recordOf (idLow q) (idHigh q) r))) c y = ap (λ v. cell W (fresh W H v) c y) (swap-leaves W H s t q i r o p) in
+      let g : u ≡ bare t q = ap (λ j. withRecord t j freeRecord) (p .at) ∙ sym (bare-is true (ap₂ _||_ o x)) in
+      let w : cell W (end .weights) c y ≡ cell W (fresh W H (withRecord u i (recordOf (idLow q) (idHigh q) r (kindAsked q)))) c y = ap (λ v. cell W (fresh W H v) c y) (swap-leaves W H s t q i r o (p .taking)) in
       by-test (eqZ (cell W (fresh W H u) c y) (cell W s c y))
       (λ k.
       ofModule (subst (λ v. Reached r v c y) g
-      (reached r u c y _ (put-frame W H (fresh W H u) u i (idLow q) (idHigh q) r n c y hc hy) (λ j. ne (w ∙ j ∙ eqZ-true (cell W (fresh W H u) c y) (cell W s c y) k)))))
+      (reached r u c y _ (put-frame W H (fresh W H u) u i (idLow q) (idHigh q) r (kindAsked q) n c y hc hy) (λ j. ne (w ∙ j ∙ eqZ-true (cell W (fresh W H u) c y) (cell W s c y) k)))))
       (λ k.
-      ofOld (ap₂ _||_ o x) (subst₂ (λ m v. Reached m v c y) (ap (rectOf t) l) g
-      (reached (rectOf t i) u c y _ (take-frame W H s t i p c y hc hy) (λ j. not-both (eqZ (cell W (fresh W H u) c y) (cell W s c y)) (ap (λ x. eqZ x (cell W s c y)) j ∙ eqZ-same (cell W s c y)) k)))))
+      ofOld (ap₂ _||_ o x) (subst₂ (λ m v. Reached m v c y) (ap (rectOf t) (p .at)) g
+      (reached (rectOf t i) u c y _ (take-frame W H s t i (p .taking) c y hc hy) (λ j. not-both (eqZ (cell W (fresh W H u) c y) (cell W s c y)) (ap (λ x. eqZ x (cell W s c y)) j ∙ eqZ-same (cell W s c y)) k)))))
 
   -- THE FRAME OF AN ACCEPTED REQUEST
   pub frame : StepOrRefusal (Done i r) (stepOf W H t q) → Framed W H q i r a end

@@ -1,32 +1,36 @@
 -- REFUSALS: what they leave, their codes, and when a request by rule is refused; where an accepted module stands. Assumes nothing.
-use mathlib.Core.Path.{_≡_, refl, sym, ap, _∙_, subst}
+use mathlib.Core.Path.{_≡_, refl, sym, ap, ap₂, _∙_, subst}
 use mathlib.Core.Bool.{Bool, true, false, not, cond, _&&_, _||_, true≢false, false≢true}
 use mathlib.Core.Logic.{_↔_}
-use mathlib.Core.List.{List, [], _∷_}
+use mathlib.Core.List.{List, [], _∷_, _++_, List·Memᴰ, List·Memᴰ·head, List·Memᴰ·tail, List·Memᴰ·not-nil}
 use mathlib.Core.Option.{Option, none, some}
-use Prim.Native.Nat.{ℕ, _+_, _<_}
+use Prim.Native.Nat.{ℕ, suc, _+_, _≤_, _<_}
 use native.Mathlib.Omega.{arith}
-use borrow.Author.Tests.{ltb-true, eqb-true, not-true}
+use borrow.Author.Tests.{ltb-true, eqb-true, eq-eqb, not-true}
 use lib.Dec.{ltb, eqb}
 use lib.IntN.{ℤ}
-use Rattle.rules.specs.Tests.{any}
-use Rattle.rules.specs.Surface.{Standing, rect, covers, rectOf, occupied}
+use Rattle.rules.specs.Tests.{any, all}
+use Rattle.rules.specs.Surface.{Standing, rect, covers, slots, idOf, rectOf, kindOf, isHard, freeSlot, occupied}
 use Rattle.rules.specs.Empties.{cellsEmpty, empty, Empty}
-use Rattle.rules.specs.Judging.{Line, _when_, first, FirstThat}
-use Rattle.meaning.specs.Numbers.{above}
-use Rattle.rules.specs.Requests.{operation, ruleOf, idAsked, wide, high, byte6, byte7, isPlace, isPin, isExchange, byRule, atPlace, makesNew, pinned, slotOf, someFree, ground, position, rulePlace, anyCellTaken, soundLines, placeLines, judging, stepOf, codeOf, needsOld, isRemove}
+use Rattle.rules.specs.Judging.{Line, _when_, first, NoneApplies, FirstThat}
+use Rattle.meaning.specs.Numbers.{above, hasCode, differ}
+use Rattle.rules.specs.Requests.{operation, known, zeros, hasSize, hasId, idPlaced, ruleOf, idAsked, wide, high, byte6, byte7, isPlace, isExchange, byRule, atPlace, makesNew, pinned, slotOf, someFree, ground, position, rulePlace, anyCellTaken, soundLines, placeLines, judging, stepOf, codeOf, needsOld, isRemove}
 use Rattle.rules.specs.Blocks.{State, withStep}
 use Rattle.rules.specs.declared.Rect.{Rect}
 use Rattle.rules.specs.declared.Step.{Step}
 use Rattle.rules.specs.declared.Step.the-variants.{Refused, Done}
-use Rattle.rules.proofs.Tests.{and-left, and-right, not-both, fails, any-at, any-yes}
-use Rattle.meaning.proofs.Splits.{split, by-test, by-or, by-same}
+use Rattle.rules.proofs.Tests.{and-left, and-right, and-both, or-neither, not-both, fails, any-at, any-yes}
+use Rattle.meaning.proofs.Splits.{split, by-test, by-or, by-same, by-cons}
 use Rattle.meaning.proofs.Choice.{rulePlace-empty}
 use Rattle.meaning.proofs.Rectangles.{empty-is}
-use Rattle.meaning.proofs.First.{first-is, none-is, none-first, first-over, first-stop}
+use Rattle.meaning.proofs.First.{first-is, none-is, none-first, first-over, first-stop, exactly}
+use Rattle.meaning.proofs.Tables.{slot-placed, slot-has}
+use Rattle.meaning.proofs.Stands.{sameId, ids-told, standing-table}
 use Rattle.meaning.proofs.Changes.{take-occupied}
-use Rattle.demands.specs.Sound.{Sound, SlotForIt}
-use Rattle.meaning.proofs.Steps.{code-is, done-refused, done-rect, came, empty-parts, Asking, asking, sizes, ground-for, taking}
+use Rattle.demands.specs.Sound.{Sound, SlotForIt, SoundTo16}
+use Rattle.demands.specs.Told.{HardId}
+use Rattle.demands.proofs.Hard.{hard-used, used-low}
+use Rattle.meaning.proofs.Steps.{code-is, done-refused, done-rect, came, empty-parts, at-place, Asking, asking, sizes, ground-for, old-there}
 use Rattle.meaning.proofs.Steps.Came.{refused, placed, removed, put, exchanged}
 
 -- ---- a refusal changes nothing
@@ -57,6 +61,14 @@ unfolding below first
 first-below n [] p e = p
 first-below n (l ∷ ls) p e =
     split (λ c. c < n) (l .applies) (λ a. ltb-true (l .code) n (and-left (ltb (l .code) n) (below n ls) e)) (λ a. first-below n ls p (and-right (ltb (l .code) n) (below n ls) e))
+
+-- a code that no line has is not given
+first-not : (n : ℕ) (ls : List Line) → (n ≡ 0 → ⊥) → hasCode n ls ≡ false → first ls ≡ n → ⊥
+unfolding hasCode first
+first-not n [] ne h e = ne (sym e)
+first-not n (l ∷ ls) ne h e =
+    let o = or-neither (eqb (l .code) n) (hasCode n ls) h in
+    split (λ c. c ≡ n → ⊥) (l .applies) (λ a e. not-both (eqb (l .code) n) (eq-eqb (l .code) n e) (o .0)) (λ a. first-not n ls ne (o .1)) e
 
 module _ (W H : ℕ) (t q : List ℕ) where
   abbrev occ : ℕ → ℕ → Bool
@@ -92,18 +104,18 @@ module _ (W H : ℕ) (t q : List ℕ) where
   -- 22 IS NEVER GIVEN
   pub never-22 : codeOf (stepOf W H t q) ≡ 22 → ⊥
   never-22 z =
+      let g = sym (code-is W H t q) ∙ z in
       by-same (first (soundLines t q)) 0
-      (λ e.
-      omega (arith, sym (code-is W H t q) ∙ z, first-over (soundLines t q) (placeLines W H t q) (unfold soundLines above in refl) e, first-four (asking t q e), first-below 22 (four []) (omega arith) (unfold below in refl)))
-      (λ ne. omega (arith, sym (code-is W H t q) ∙ z, first-stop (soundLines t q) (placeLines W H t q) ne, first-below 18 (soundLines t q) (omega arith) (unfold soundLines below in refl)))
+      (λ e. first-not 22 (four []) (λ z. omega arith) (unfold hasCode in refl) (sym (first-over (soundLines t q) (placeLines W H t q) (unfold soundLines above in refl) e ∙ first-four (asking t q e)) ∙ g))
+      (λ ne. first-not 22 (soundLines t q) (λ z. omega arith) (unfold soundLines hasCode in refl) (sym (first-stop (soundLines t q) (placeLines W H t q) ne) ∙ g))
 
   -- ---- when a sound request by rule is refused
 
   not-at : byRule q ≡ true → atPlace q ≡ false
   not-at e =
       by-or (isPlace q) (isExchange q) e
-      (λ p. ap (λ n. eqb n 3) (eqb-true (operation q) 1 p))
-      (λ p. ap (λ n. eqb n 3) (eqb-true (operation q) 4 p))
+      (λ p. ap (λ n. eqb n 3 || eqb n 6) (eqb-true (operation q) 1 p))
+      (λ p. ap (λ n. eqb n 3 || eqb n 6) (eqb-true (operation q) 4 p))
 
   slot-there : byRule q ≡ true → SlotForIt t q → (makesNew q && not (someFree t)) ≡ false
   slot-there e f =
@@ -151,6 +163,77 @@ no-position occ W H w h = (
       n (x .0) (y .0) (empty-is occ W H (rect (x .0) (y .0) w h) .0 (x .2)))),
 )
 
+-- ---- 23, "remove or exchange of a block, follows 16"
+
+-- lines none of which applies, of those with a code of at most n: those before them that have a higher one do not matter
+none-to : (n : ℕ) (ls ms : List Line) → below (suc n) ls ≡ true → ((l : Line) → List·Memᴰ l (ls ++ ms) → l .code ≤ n → l .applies ≡ false) → NoneApplies ls
+unfolding below NoneApplies
+none-to n [] ms b h = tt
+none-to n (l ∷ ls) ms b h =
+    let c = ltb-true (l .code) (suc n) (and-left (ltb (l .code) (suc n)) (below (suc n) ls) b) in
+    (h l (List·Memᴰ·head refl) (omega arith), none-to n ls ms (and-right (ltb (l .code) (suc n)) (below (suc n) ls) b) (λ k m. h k (List·Memᴰ·tail m)))
+
+to-none : (n : ℕ) (ls ms : List Line) → NoneApplies ls → ((l : Line) → List·Memᴰ l ms → n < l .code) → (l : Line) → List·Memᴰ l (ls ++ ms) → l .code ≤ n → l .applies ≡ false
+unfolding NoneApplies
+to-none n [] ms z h l m c = absurd (omega (arith, h l m))
+to-none n (k ∷ ls) ms z h l m c = by-cons m (λ q. ap (λ (l : Line). l .applies) q ∙ z .0) (λ m. to-none n ls ms (z .1) h l m c)
+
+-- on a surface that stands an id has one slot
+slot-one : (W H : ℕ) (s : List ℤ) (t : List ℕ) → Standing W H s t → (i n : ℕ) → i < slots t → freeSlot t i ≡ false → idOf t i ≡ n → slotOf t n ≡ i
+unfolding idPlaced
+slot-one W H s t d i n l f e =
+    let k = slotOf t n in
+    let placed : idPlaced t n ≡ true = any-yes (slots t) (hasId t n) i l (and-both (ap not f) (eq-eqb (idOf t i) n e)) in
+    let low = ltb-true k (slots t) (slot-placed t n ∙ placed) in
+    let h = slot-has t n low in
+    by-same k i (λ z. z) (λ ne.
+    not-both (sameId t k i) (and-both (and-both (ap not (h .0)) (ap not f)) (eq-eqb (idOf t k) (idOf t i) (h .1 ∙ sym e)))
+    (ids-told t (standing-table W H s t d .idsAre) k i low l ne))
+
+module _ (W H : ℕ) (s : List ℤ) (t q : List ℕ) (d : Standing W H s t) where
+  abbrev old : ℕ
+  old = slotOf t (idAsked q)
+
+  hard-id : isHard t old ≡ true → HardId t (idAsked q)
+  hard-id h =
+      let k = eqb-true (kindOf t old) 1 h in
+      let l = used-low d old (hard-used t old k) in
+      record { slot = old; low = l; named = slot-has t (idAsked q) l .1; hard = k }
+
+  id-hard : HardId t (idAsked q) → isHard t old ≡ true
+  id-hard k = eq-eqb (kindOf t old) 1 (ap (kindOf t) (slot-one W H s t d (k .slot) (idAsked q) (k .low) (hard-used t (k .slot) (k .hard)) (k .named)) ∙ k .hard)
+
+  -- 11 to 16, and the lines behind 23
+  abbrev six : List Line
+  six =
+      11 when not (known q) ∷
+      12 when not (all (eqb 0) (zeros q)) ∷
+      13 when (byRule q && ltb 2 (ruleOf q)) ∷
+      14 when eqb (idAsked q) 0 ∷
+      15 when (makesNew q && idPlaced t (idAsked q)) ∷
+      16 when (needsOld q && not (idPlaced t (idAsked q))) ∷
+      []
+
+  abbrev hardLine : Line
+  hardLine = 23 when (needsOld q && isHard t old)
+
+  abbrev sizeLine : Line
+  sizeLine = 17 when (hasSize q && (eqb (wide q) 0 || eqb (high q) 0))
+
+  behind-16 : (l : Line) → List·Memᴰ l (hardLine ∷ sizeLine ∷ []) → 16 < l .code
+  behind-16 l m =
+      by-cons m (λ e. omega (arith, ap (λ (l : Line). l .code) e)) (λ m. by-cons m (λ e. omega (arith, ap (λ (l : Line). l .code) e)) (λ m. absurd (List·Memᴰ·not-nil m)))
+
+  pub hard-exactly : (codeOf (stepOf W H t q) ≡ 23) ↔ ((needsOld q ≡ true) × SoundTo16 t q × HardId t (idAsked q))
+  unfolding soundLines
+  hard-exactly =
+      let x = exactly (judging W H t q) _ (unfold soundLines placeLines above in refl) (unfold soundLines placeLines hasCode differ in refl) (code-first W H t q) six hardLine (sizeLine ∷ placeLines W H t q) refl in (
+        (λ e.
+            let n = x .0 e in
+            (and-left (needsOld q) (isHard t old) (n .1), to-none 16 six (hardLine ∷ sizeLine ∷ []) (n .0) behind-16, hard-id (and-right (needsOld q) (isHard t old) (n .1)))),
+        (λ k. x .1 (none-to 16 six (hardLine ∷ sizeLine ∷ []) (unfold below in refl) (k .1), and-both (k .0) (id-hard (k .2)))),
+      )
+
 -- ---- the surface on which a place is judged
 
 pub ground-place : (t q : List ℕ) → isPlace q ≡ true → ground t q ≡ t
@@ -161,8 +244,8 @@ pub ground-exchange : (W H : ℕ) (s : List ℤ) (t q : List ℕ) → Standing W
     occupied (ground t q) x y ≡ (occupied t x y && not (covers (rectOf t (slotOf t (idAsked q))) x y))
 ground-exchange W H s t q d a e x y =
     let o = eqb-true (operation q) 4 e in
-    let p = taking W H s t q d (asking t q (sound-first t q a)) (ap (λ n. eqb n 2 || eqb n 4) o) in
-    ap (λ u. occupied u x y) (ground-for t q 4 o) ∙ take-occupied W H s t (slotOf t (idAsked q)) (p .0) x y
+    let p = old-there W H s t q d (asking t q (sound-first t q a)) (ap (λ n. eqb n 2 || eqb n 4) o) in
+    ap (λ u. occupied u x y) (ground-for t q 4 o) ∙ take-occupied W H s t (slotOf t (idAsked q)) (p .taking) x y
 
 -- ---- where an accepted module stands
 
@@ -170,19 +253,19 @@ ground-exchange W H s t q d a e x y =
 pub old-not-new : (q : List ℕ) → needsOld q ≡ true → makesNew q ≡ false
 old-not-new q e =
     by-or (isRemove q) (isExchange q) e
-    (λ p. ap (λ n. eqb n 1 || eqb n 3) (eqb-true (operation q) 2 p))
-    (λ p. ap (λ n. eqb n 1 || eqb n 3) (eqb-true (operation q) 4 p))
+    (λ p. ap (λ n. eqb n 1 || (eqb n 3 || eqb n 6)) (eqb-true (operation q) 2 p))
+    (λ p. ap (λ n. eqb n 1 || (eqb n 3 || eqb n 6)) (eqb-true (operation q) 4 p))
 
 -- by its rule, or where its pin says
 pub record StandsAs (W H : ℕ) (t q : List ℕ) (r : Rect) : Type 0 where
   pub rule : byRule q ≡ true → rulePlace (occupied (ground t q)) W H (ruleOf q) (wide q) (high q) ≡ some r
-  pub pin : isPin q ≡ true → r ≡ pinned q
+  pub there : atPlace q ≡ true → r ≡ pinned q
 
 pub stands-as : (W H : ℕ) (s : List ℤ) (t q : List ℕ) → Standing W H s t → (i : ℕ) (r : Rect) → stepOf W H t q ≡ Done i r → StandsAs W H t q r
 stands-as W H s t q d i r e = elim (came W H s t q d) [
   | refused ne z ↦ done-refused i r _ (sym z ∙ e)
-  | placed m o z c p ↦ record { rule = λ b. c ∙ ap some (done-rect _ _ r m (sym e ∙ z)); pin = λ b. not-both (isPin q) b (ap (λ n. eqb n 3) o) }
-  | removed o z p id ↦ record { rule = λ b. not-both (byRule q) b (ap (λ n. eqb n 1 || eqb n 4) o); pin = λ b. not-both (isPin q) b (ap (λ n. eqb n 3) o) }
-  | put o z p ↦ record { rule = λ b. not-both (byRule q) b (ap (λ n. eqb n 1 || eqb n 4) o); pin = λ b. sym (done-rect _ _ r (pinned q) (sym e ∙ z)) }
-  | exchanged m o z c p id on free ↦ record { rule = λ b. c ∙ ap some (done-rect _ _ r m (sym e ∙ z)); pin = λ b. not-both (isPin q) b (ap (λ n. eqb n 3) o) }
+  | placed m o z c p ↦ record { rule = λ b. c ∙ ap some (done-rect _ _ r m (sym e ∙ z)); there = λ b. not-both (isPlace q) (ap (λ n. eqb n 1) o) (at-place q b .noPlace) }
+  | removed o z p ↦ record { rule = λ b. not-both (byRule q) b (ap (λ n. eqb n 1 || eqb n 4) o); there = λ b. not-both (isRemove q) (ap (λ n. eqb n 2) o) (at-place q b .noRemove) }
+  | put a z p ↦ record { rule = λ b. not-both (byRule q) b (ap₂ _||_ (a .noPlace) (a .noExchange)); there = λ b. sym (done-rect _ _ r (pinned q) (sym e ∙ z)) }
+  | exchanged m o z c p on free ↦ record { rule = λ b. c ∙ ap some (done-rect _ _ r m (sym e ∙ z)); there = λ b. not-both (isExchange q) (ap (λ n. eqb n 4) o) (at-place q b .noExchange) }
 ]

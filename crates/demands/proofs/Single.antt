@@ -1,7 +1,7 @@
 -- A BLOCK OF ONE REQUEST, IN BYTES: what the host gets back is worked out afresh, and the frame holds between what it has lent and what it gets back. A BLOCK OF k REQUESTS IS k BLOCKS OF
--- ONE. Assumes nothing.
+-- ONE. And what becomes of the fabric's blocks over calls. Assumes nothing.
 use mathlib.Core.Path.{_≡_, refl, sym, ap, ap₂, _∙_, subst, subst₂}
-use mathlib.Core.Bool.{true, not}
+use mathlib.Core.Bool.{true, false, not}
 use mathlib.Core.List.{List, _++_}
 use Prim.Native.Nat.{ℕ, zero, suc, _+_, _*_, _/_, _%_, _≤_, _<_}
 use native.Mathlib.Nat.{mul-comm}
@@ -11,8 +11,9 @@ use lib.IntN.{ℤ}
 use lib.ListN.{length, getD, take, drop, length-drop}
 use lib.Seq.{take-add, take-all, length-take-le}
 use Rattle.rules.specs.Tests.{all}
-use Rattle.rules.specs.Surface.{Standing, cell, fresh}
-use Rattle.rules.specs.Blocks.{State, requests, request, afterBy}
+use Rattle.rules.specs.Surface.{Standing, covers, rectOf, kindOf, freeSlot, cell, fresh}
+use Rattle.rules.specs.Requests.{stepOf}
+use Rattle.rules.specs.Blocks.{State, started, requests, request, afterBy}
 use Rattle.rules.specs.Calls.{badBlock, codeOfResult, firstOfResult}
 use Rattle.rules.specs.Host.{LentSurface, bits16, bytesOf, weightsIn, HostClearedBy, lent}
 use Rattle.rules.proofs.Tests.{and-both}
@@ -20,10 +21,16 @@ use Rattle.meaning.proofs.Stands.{standing-fresh}
 use Rattle.meaning.proofs.Bytes.{length-bytesOf, bytesOf-low, bytesOf-high, bytes-back}
 use Rattle.demands.specs.History.{codeIn, placeIn}
 use Rattle.demands.specs.Frame.{SameBytes, BytesFramed}
-use Rattle.demands.specs.Chain.{RunCall, NotRefused, asked, answered, upTo, joined, ones, Chain}
+use Rattle.demands.specs.Chain.{RunCall, NotRefused, asked, answered, upTo, joined, ones, Chain, Onward}
+use Rattle.demands.specs.Chain.Onward.{here, run}
+use Rattle.demands.specs.Told.{HardStays}
+use Rattle.meaning.proofs.Splits.{by-same}
+use Rattle.meaning.proofs.Steps.{rules-step}
+use Rattle.demands.proofs.Stands.{cleared-free}
+use Rattle.demands.proofs.Hard.{hard-used, stays-same, stays-on, hard-after, slots-apart}
 use Rattle.demands.specs.Chain.Chain.{cleared, block}
 use Rattle.meaning.proofs.Counts.{none-accepted}
-use Rattle.demands.proofs.Calls.{run-long}
+use Rattle.demands.proofs.Calls.{clear-leaves, run-long, run-refused}
 use Rattle.demands.proofs.Chains.{call-counts, call-stands, call-left, call-read, each-stands, came-to, chain-cut, every-cut}
 use Rattle.demands.proofs.Answered.{answer-frame, answer-refused}
 
@@ -129,3 +136,27 @@ module _ {W H : ℕ} (c : RunCall W H) (e : NotRefused c) where
 
   pub none-changes : ((k : ℕ) → getD (c .lent .weights) k 0 < 256) → firstOfResult (c .result) ≡ 0 → c .left ≡ c .lent
   none-changes bytes = none-changes-back (bytes-back (c .lent .weights) bytes (W * H) (run-long W H (c .lent) (c .block) (c .room) (c .contract) e))
+
+-- ==== BLOCKS OF THE FABRIC, over calls
+
+-- a clear leaves no slot used
+pub clear-frees : (W H : ℕ) (l : LentSurface) {r : ℕ} {l′ : LentSurface} → HostClearedBy W H l r l′ → codeOfResult r ≡ 0 → (i : ℕ) → freeSlot (l′ .table) i ≡ true
+clear-frees W H l p e i = ap (λ (l : LentSurface). freeSlot (l .table) i) (clear-leaves W H l p e) ∙ cleared-free (l .table) i
+
+-- a run, refused or not, leaves every block as it was
+pub hard-stays : {W H : ℕ} (c : RunCall W H) → HardStays (c .lent .table) (c .left .table)
+unfolding afterBy
+hard-stays {W} {H} c =
+    by-same (codeOfResult (c .result)) 0
+    (λ e. subst (HardStays (c .lent .table)) (sym (table-left c e)) (hard-after (stepOf W H) W H (rules-step W H) (c .block) (started (weightsIn (c .lent)) (c .lent .table)) (call-stands c e) 0 (requests (c .block)) (omega arith)))
+    (λ ne. subst (λ (l : LentSurface). HardStays (c .lent .table) (l .table)) (sym (run-refused W H (c .lent) (c .block) (c .room) (c .contract) ne .0)) (stays-same (c .lent .table)))
+
+pub hard-stays-on : {W H : ℕ} {l l′ : LentSurface} → Onward W H l l′ → HardStays (l .table) (l′ .table)
+hard-stays-on {l = l} here = stays-same (l .table)
+hard-stays-on {l = l} (run c z) = stays-on (l .table) (c .lent .table) (c .left .table) (hard-stays-on z) (hard-stays c)
+
+-- in every table that a call goes through
+pub hard-apart : {W H : ℕ} (c : RunCall W H) (e : NotRefused c) (k : ℕ) →
+    let t = upTo c k .table in
+    (i j : ℕ) → (i ≡ j → ⊥) → kindOf t i ≡ 1 → freeSlot t j ≡ false → (x y : ℕ) → covers (rectOf t i) x y ≡ true → covers (rectOf t j) x y ≡ false
+hard-apart c e k i j ne h = slots-apart (each-stands c e k) i j ne (hard-used (upTo c k .table) i h)

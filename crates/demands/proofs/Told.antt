@@ -8,9 +8,9 @@ use borrow.Author.Tests.{eqb-true, eq-eqb, ne-eqb, not-true}
 use lib.Dec.{eqb}
 use lib.IntN.{ℤ}
 use Rattle.rules.specs.Tests.{least, keep}
-use Rattle.rules.specs.Surface.{rect, slots, idOf, rectOf, recordOf, freeRecord, freeSlot, withRecord}
+use Rattle.rules.specs.Surface.{rect, slots, idOf, rectOf, kindOf, recordOf, freeRecord, freeSlot, withRecord}
 use Rattle.rules.specs.Empties.{Ordered}
-use Rattle.rules.specs.Requests.{operation, idLow, idHigh, idAsked, isPlace, isPin, hasId, idPlaced, lowestFree, stepOf, answerOf, tableAfter}
+use Rattle.rules.specs.Requests.{operation, idLow, idHigh, idAsked, isPlace, isPin, isSet, atPlace, makesNew, kindAsked, hasId, idPlaced, lowestFree, stepOf, answerOf, tableAfter}
 use Rattle.rules.specs.Blocks.{State}
 use Rattle.rules.specs.declared.Rect.{Rect}
 use Rattle.rules.specs.declared.Step.{Step}
@@ -18,11 +18,11 @@ use Rattle.rules.specs.declared.Step.the-variants.{Refused, Done}
 use Rattle.rules.proofs.Tests.{and-both, not-both, fails, any-none, least-is, keep-mem, mem-keep, all-at, all-yes}
 use Rattle.meaning.specs.Change.{Placing, Taking, StepOrRefusal, Change}
 use Rattle.meaning.specs.Change.Change.{puts, takes, swaps}
-use Rattle.meaning.proofs.Splits.{by-test, by-same, by-cons}
+use Rattle.meaning.proofs.Splits.{by-test, by-same, by-or, by-cons}
 use Rattle.meaning.proofs.Order.{ordered-keep}
-use Rattle.meaning.proofs.Tables.{Alike, alike-back, alike-slots, alike-free, alike-id, alike-rect, look-found}
+use Rattle.meaning.proofs.Tables.{Alike, alike-back, alike-slots, alike-free, alike-id, alike-rect, alike-kind, look-found}
 use Rattle.meaning.proofs.Stands.{sameId, ids-told, standing-table}
-use Rattle.meaning.proofs.Changes.{put-id, put-more, taken-alike, taken-less}
+use Rattle.meaning.proofs.Changes.{put-id, put-kind, put-more, taken-alike, taken-less}
 use Rattle.meaning.proofs.Steps.{StateStands, change, accepted-as, refusal-code, put-leaves, take-leaves, swap-leaves}
 use Rattle.demands.specs.History.{Module, moduleAt, others, unused, leastUnused, slotIn, noted}
 use Rattle.demands.specs.Told.{HasModule, Told}
@@ -46,22 +46,23 @@ has-alike a m ne w =
       used = alike-free a (m .slot) ne ∙ w .used;
       id = alike-id a (m .slot) ne ∙ w .id;
       place = alike-rect a (m .slot) ne ∙ w .place;
+      kind = alike-kind a (m .slot) ne ∙ w .kind;
     }
 
 -- ---- a module is put in
 
-module _ (W H : ℕ) (s : List ℤ) (t : List ℕ) (i low high : ℕ) (r : Rect) (p : Placing W H s t i low high r) where
+module _ (W H : ℕ) (s : List ℤ) (t : List ℕ) (i low high : ℕ) (r : Rect) (kind : ℕ) (p : Placing W H s t i low high r kind) where
   abbrev more : List ℕ
-  more = withRecord t i (recordOf low high r)
+  more = withRecord t i (recordOf low high r kind)
 
   abbrev new : Module
-  new = moduleAt i (low + 256 * high) r
+  new = moduleAt i (low + 256 * high) r kind
 
   -- the module is there
   pub put-has : HasModule more new
   put-has =
-      let o = put-more W H s t i low high r p in
-      record { low = omega (arith, alike-slots (o .alike), p .slot); used = o .used; id = put-id W H s t i low high r p; place = o .rect }
+      let o = put-more W H s t i low high r kind p in
+      record { low = omega (arith, alike-slots (o .alike), p .slot); used = o .used; id = put-id W H s t i low high r kind p; place = o .rect; kind = put-kind W H s t i low high r kind p }
 
   pub told-put : (h : List Module) → Told h t → Told (new ∷ h) more
   unfolding Ordered idPlaced
@@ -71,7 +72,7 @@ module _ (W H : ℕ) (s : List ℤ) (t : List ℕ) (i low high : ℕ) (r : Rect)
       there m k =
           by-cons k
           (λ q. subst (HasModule more) (sym q) put-has)
-          (λ l. let w = d .exact m .0 l in has-alike (put-more W H s t i low high r p .alike) m (λ q. not-both (freeSlot t i) (p .unused) (ap (freeSlot t) (sym q) ∙ w .used)) w)
+          (λ l. let w = d .exact m .0 l in has-alike (put-more W H s t i low high r kind p .alike) m (λ q. not-both (freeSlot t i) (p .unused) (ap (freeSlot t) (sym q) ∙ w .used)) w)
 
       back : (m : Module) → HasModule more m → List·Memᴰ m (new ∷ h)
       back m w =
@@ -79,8 +80,9 @@ module _ (W H : ℕ) (s : List ℤ) (t : List ℕ) (i low high : ℕ) (r : Rect)
           (λ q.
           let e : m .id ≡ low + 256 * high = sym (w .id) ∙ ap (idOf more) q ∙ put-has .id in
           let f : m .place ≡ r = sym (w .place) ∙ ap (rectOf more) q ∙ put-has .place in
-          List·Memᴰ·head (λ j. record { slot = q j; id = e j; place = f j }))
-          (λ ne. List·Memᴰ·tail (d .exact m .1 (has-alike (alike-back (put-more W H s t i low high r p .alike)) m ne w)))
+          let g : m .kind ≡ kind = sym (w .kind) ∙ ap (kindOf more) q ∙ put-has .kind in
+          List·Memᴰ·head (λ j. record { slot = q j; id = e j; place = f j; kind = g j }))
+          (λ ne. List·Memᴰ·tail (d .exact m .1 (has-alike (alike-back (put-more W H s t i low high r kind p .alike)) m ne w)))
 
       fresh-id : (m : Module) → List·Memᴰ m h → low + 256 * high ≡ m .id → ⊥
       fresh-id m k e =
@@ -122,8 +124,8 @@ module _ (W H : ℕ) (s : List ℤ) (t : List ℕ) (i : ℕ) (p : Taking W H s t
 
 module _ (h : List Module) (t : List ℕ) (d : Told h t) where
   -- the module of a used slot
-  pub at-slot : (i : ℕ) → i < slots t → freeSlot t i ≡ false → List·Memᴰ (moduleAt i (idOf t i) (rectOf t i)) h
-  at-slot i l f = d .exact (moduleAt i (idOf t i) (rectOf t i)) .1 (record { low = l; used = f; id = refl; place = refl })
+  pub at-slot : (i : ℕ) → i < slots t → freeSlot t i ≡ false → List·Memᴰ (moduleAt i (idOf t i) (rectOf t i) (kindOf t i)) h
+  at-slot i l f = d .exact (moduleAt i (idOf t i) (rectOf t i) (kindOf t i)) .1 (record { low = l; used = f; id = refl; place = refl; kind = refl })
 
   abbrev apart : ℕ → Module → Bool
   apart i m = not (eqb (m .slot) i)
@@ -156,7 +158,7 @@ slot-is (n ∷ h) d m k =
 
 -- THE SLOT OF AN ID IN THE HISTORY IS THE TABLE'S
 pub slot-told : (h : List Module) (t : List ℕ) → Told h t → (i id : ℕ) → i < slots t → freeSlot t i ≡ false → idOf t i ≡ id → slotIn id h ≡ i
-slot-told h t d i id l f e = ap (λ n. slotIn n h) (sym e) ∙ slot-is h (d .differ) (moduleAt i (idOf t i) (rectOf t i)) (at-slot h t d i l f)
+slot-told h t d i id l f e = ap (λ n. slotIn n h) (sym e) ∙ slot-is h (d .differ) (moduleAt i (idOf t i) (rectOf t i) (kindOf t i)) (at-slot h t d i l f)
 
 -- ---- one request, that the rules' step or a refusal answers
 
@@ -170,14 +172,24 @@ module _ (W H : ℕ) (q : List ℕ) (a : State) (h : List Module) (z : StateStan
   -- what is noted of operation n, where the answer has code 0
   abbrev notedBy : ℕ → Rect → List Module
   notedBy n r =
-      cond (eqb n 1 || eqb n 3) (moduleAt (leastUnused h) (idAsked q) r ∷ h)
-      (cond (eqb n 2) (others (idAsked q) h) (cond (eqb n 4) (moduleAt (slotIn (idAsked q) h) (idAsked q) r ∷ others (idAsked q) h) h))
+      cond (eqb n 1 || eqb n 3) (moduleAt (leastUnused h) (idAsked q) r 0 ∷ h)
+      (cond (eqb n 6) (moduleAt (leastUnused h) (idAsked q) r 1 ∷ h)
+      (cond (eqb n 2) (others (idAsked q) h) (cond (eqb n 4) (moduleAt (slotIn (idAsked q) h) (idAsked q) r 0 ∷ others (idAsked q) h) h)))
 
-  noted-new : (i : ℕ) (r : Rect) → (isPlace q || isPin q) ≡ true → noted q (answerOf q (Done i r)) h ≡ moduleAt (leastUnused h) (idAsked q) r ∷ h
-  noted-new i r e = rw e
+  noted-as : (i : ℕ) (r : Rect) (n : ℕ) → operation q ≡ n → noted q (answerOf q (Done i r)) h ≡ notedBy n r
+  noted-as i r n e = ap (λ n. notedBy n r) e
 
-  noted-old : (i : ℕ) (r : Rect) (n : ℕ) → operation q ≡ n → noted q (answerOf q (Done i r)) h ≡ notedBy n r
-  noted-old i r n e = ap (λ n. notedBy n r) e
+  -- the kind of what operation n puts in
+  kind-as : (n : ℕ) → operation q ≡ n → kindAsked q ≡ cond (eqb n 6) 1 0
+  kind-as n e = ap {B = ℕ} (λ n. cond (eqb n 6) 1 0) e
+
+  noted-new : (i : ℕ) (r : Rect) → makesNew q ≡ true → noted q (answerOf q (Done i r)) h ≡ moduleAt (leastUnused h) (idAsked q) r (kindAsked q) ∷ h
+  noted-new i r e =
+      by-or (isPlace q) (atPlace q) e (λ p. by 1 (eqb-true (operation q) 1 p) refl) (λ a.
+      by-or (isPin q) (isSet q) a (λ p. by 3 (eqb-true (operation q) 3 p) refl) (λ p. by 6 (eqb-true (operation q) 6 p) refl))
+    where
+      by : (n : ℕ) → operation q ≡ n → notedBy n r ≡ moduleAt (leastUnused h) (idAsked q) r (cond (eqb n 6) 1 0) ∷ h → noted q (answerOf q (Done i r)) h ≡ moduleAt (leastUnused h) (idAsked q) r (kindAsked q) ∷ h
+      by n o z = noted-as i r n o ∙ z ∙ ap (λ k. moduleAt (leastUnused h) (idAsked q) r k ∷ h) (sym (kind-as n o))
 
   noted-refused : (c : ℕ) → (c ≡ 0 → ⊥) → noted q (answerOf q (Refused c)) h ≡ h
   noted-refused c ne = ap (λ b. cond (not b) h (notedBy (operation q) (rect 0 0 0 0))) (ne-eqb c 0 ne)
@@ -185,19 +197,22 @@ module _ (W H : ℕ) (q : List ℕ) (a : State) (h : List Module) (z : StateStan
   done : (i : ℕ) (r : Rect) → Change W H s t q i r → Told (noted q (answerOf q (Done i r)) h) (tableAfter q (Done i r) t)
   done i r (puts n l p) =
       subst₂ Told
-      (sym (noted-new i r (n .makes) ∙ ap (λ j. moduleAt j (idAsked q) r ∷ h) (least-lowest h t m (subst (λ j. j < slots t) l (p .slot)) (z .few) ∙ sym l)))
+      (sym (noted-new i r (n .makes) ∙ ap (λ j. moduleAt j (idAsked q) r (kindAsked q) ∷ h) (least-lowest h t m (subst (λ j. j < slots t) l (p .slot)) (z .few) ∙ sym l)))
       (sym (put-leaves W H s t q i r (n .noRemove)))
-      (told-put W H s t i (idLow q) (idHigh q) r p h m)
-  done i r (takes o x l id e p) =
+      (told-put W H s t i (idLow q) (idHigh q) r (kindAsked q) p h m)
+  done i r (takes o x p e) =
       subst₂ Told
-      (sym (noted-old i r 2 (eqb-true (operation q) 2 o) ∙ ap (λ n. others n h) (sym id)))
+      (sym (noted-as i r 2 (eqb-true (operation q) 2 o) ∙ ap (λ n. others n h) (sym (p .named))))
       (sym (take-leaves W H s t q i r o))
-      (told-take W H s t i p h m)
-  done i r (swaps o x l id p n) =
+      (told-take W H s t i (p .taking) h m)
+  done i r (swaps o x p n) =
+      let e = eqb-true (operation q) 4 x in
+      let there = slot-told h t m i (idAsked q) (p .taking .slot) (p .taking .used) (p .named) in
+      let new : Module = moduleAt i (idAsked q) r (kindAsked q) in
       subst₂ Told
-      (sym (noted-old i r 4 (eqb-true (operation q) 4 x) ∙ ap₂ (λ j n. moduleAt j (idAsked q) r ∷ others n h) (slot-told h t m i (idAsked q) (p .slot) (p .used) id) (sym id)))
-      (sym (swap-leaves W H s t q i r o p))
-      (told-put W H _ _ i (idLow q) (idHigh q) r n (others (idOf t i) h) (told-take W H s t i p h m))
+      (sym (noted-as i r 4 e ∙ ap₂ (λ j k. moduleAt j (idAsked q) r k ∷ others (idAsked q) h) there (sym (kind-as 4 e)) ∙ ap (λ n. new ∷ others n h) (sym (p .named))))
+      (sym (swap-leaves W H s t q i r o (p .taking)))
+      (told-put W H _ _ i (idLow q) (idHigh q) r (kindAsked q) n (others (idOf t i) h) (told-take W H s t i (p .taking) h m))
 
   -- THE TABLE AFTER IT HOLDS EXACTLY THE MODULES OF THE HISTORY THEN
   pub told-step : (d : Step) → StepOrRefusal d (stepOf W H t q) → Told (noted q (answerOf q d) h) (tableAfter q d t)

@@ -56,3 +56,8 @@ pub record ChainOver (W H : ℕ) (l₀ : LentSurface) (qs : List (List ℕ)) : T
 unfoldable pub ones : List ℕ → ℕ → List (List ℕ)
 ones q zero = []
 ones q (suc k) = request q k ∷ ones q k
+
+-- RUN AFTER RUN, each on what the one before left, accepted or refused, with no clear between: from the surface l on, l′ is left now
+pub data Onward (W H : ℕ) (l : LentSurface) : LentSurface → Type 0 where
+  here : Onward W H l l
+  run : (c : RunCall W H) → Onward W H l (c .lent) → Onward W H l (c .left)

@@ -72,7 +72,7 @@ remove id = eight 2 0 id 0 0 0 0 0
 abbrev pub storyG : Story
 storyG = record { w = 3; h = 3; slots = 2; block = pin 7 1 1 1 1 ++ eight 4 2 7 0 2 2 0 0 }
 
-pub g-told : tellings storyG ≡ (moduleAt 0 7 (rect 1 1 1 1) ∷ []) ∷ (moduleAt 0 7 (rect 0 1 2 2) ∷ []) ∷ []
+pub g-told : tellings storyG ≡ (moduleAt 0 7 (rect 1 1 1 1) 0 ∷ []) ∷ (moduleAt 0 7 (rect 0 1 2 2) 0 ∷ []) ∷ []
 unfolding caseHolds history leastUnused slotIn
 g-told = refl
 
@@ -97,7 +97,7 @@ storyH = record { w = 3; h = 3; slots = 2; block = pin 7 1 1 1 1 ++ eight 4 0 7 
 abbrev pinnedH : List ℤ
 pinnedH = e 1 ∷ e 1 ∷ e 1 ∷ e 2 ∷ o 1 ∷ e 2 ∷ e 3 ∷ e 1 ∷ e 3 ∷ []
 
-pub h-told : tellings storyH ≡ (moduleAt 0 7 (rect 1 1 1 1) ∷ []) ∷ (moduleAt 0 7 (rect 1 1 1 1) ∷ []) ∷ (moduleAt 0 7 (rect 1 1 1 1) ∷ []) ∷ (moduleAt 0 7 (rect 1 1 1 1) ∷ []) ∷ []
+pub h-told : tellings storyH ≡ (moduleAt 0 7 (rect 1 1 1 1) 0 ∷ []) ∷ (moduleAt 0 7 (rect 1 1 1 1) 0 ∷ []) ∷ (moduleAt 0 7 (rect 1 1 1 1) 0 ∷ []) ∷ (moduleAt 0 7 (rect 1 1 1 1) 0 ∷ []) ∷ []
 unfolding caseHolds history leastUnused slotIn
 h-told = refl
 
@@ -114,7 +114,7 @@ h-weights = refl
 abbrev pub storyRemoved : Story
 storyRemoved = record { w = 1; h = 4; slots = 2; block = pin 1 0 0 1 1 ++ pin 2 0 2 1 1 ++ remove 2 }
 
-pub removed-told : tellings storyRemoved ≡ (moduleAt 0 1 (rect 0 0 1 1) ∷ []) ∷ (moduleAt 1 2 (rect 0 2 1 1) ∷ moduleAt 0 1 (rect 0 0 1 1) ∷ []) ∷ (moduleAt 0 1 (rect 0 0 1 1) ∷ []) ∷ []
+pub removed-told : tellings storyRemoved ≡ (moduleAt 0 1 (rect 0 0 1 1) 0 ∷ []) ∷ (moduleAt 1 2 (rect 0 2 1 1) 0 ∷ moduleAt 0 1 (rect 0 0 1 1) 0 ∷ []) ∷ (moduleAt 0 1 (rect 0 0 1 1) 0 ∷ []) ∷ []
 unfolding caseHolds history leastUnused slotIn
 removed-told = refl
 
@@ -137,11 +137,11 @@ abbrev pub storyExchanged : Story
 storyExchanged = record { w = 1; h = 4; slots = 3; block = pin 1 0 0 1 1 ++ pin 2 0 2 1 1 ++ remove 2 ++ eight 4 2 1 0 1 2 0 0 ++ pin 5 0 0 1 1 }
 
 pub exchanged-told : tellings storyExchanged
-    ≡ (moduleAt 0 1 (rect 0 0 1 1) ∷ [])
-    ∷ (moduleAt 1 2 (rect 0 2 1 1) ∷ moduleAt 0 1 (rect 0 0 1 1) ∷ [])
-    ∷ (moduleAt 0 1 (rect 0 0 1 1) ∷ [])
-    ∷ (moduleAt 0 1 (rect 0 2 1 2) ∷ [])
-    ∷ (moduleAt 1 5 (rect 0 0 1 1) ∷ moduleAt 0 1 (rect 0 2 1 2) ∷ [])
+    ≡ (moduleAt 0 1 (rect 0 0 1 1) 0 ∷ [])
+    ∷ (moduleAt 1 2 (rect 0 2 1 1) 0 ∷ moduleAt 0 1 (rect 0 0 1 1) 0 ∷ [])
+    ∷ (moduleAt 0 1 (rect 0 0 1 1) 0 ∷ [])
+    ∷ (moduleAt 0 1 (rect 0 2 1 2) 0 ∷ [])
+    ∷ (moduleAt 1 5 (rect 0 0 1 1) 0 ∷ moduleAt 0 1 (rect 0 2 1 2) 0 ∷ [])
     ∷ []
 unfolding caseHolds history leastUnused slotIn
 exchanged-told = refl
@@ -182,14 +182,47 @@ abbrev pub storySlots : Story
 storySlots = record { w = 1; h = 4; slots = 3; block = pin 1 0 0 1 1 ++ pin 2 0 3 1 1 ++ remove 1 ++ eight 4 2 2 0 1 2 0 0 ++ pin 5 0 0 1 1 }
 
 pub slots-told : tellings storySlots
-    ≡ (moduleAt 0 1 (rect 0 0 1 1) ∷ [])
-    ∷ (moduleAt 1 2 (rect 0 3 1 1) ∷ moduleAt 0 1 (rect 0 0 1 1) ∷ [])
-    ∷ (moduleAt 1 2 (rect 0 3 1 1) ∷ [])
-    ∷ (moduleAt 1 2 (rect 0 2 1 2) ∷ [])
-    ∷ (moduleAt 0 5 (rect 0 0 1 1) ∷ moduleAt 1 2 (rect 0 2 1 2) ∷ [])
+    ≡ (moduleAt 0 1 (rect 0 0 1 1) 0 ∷ [])
+    ∷ (moduleAt 1 2 (rect 0 3 1 1) 0 ∷ moduleAt 0 1 (rect 0 0 1 1) 0 ∷ [])
+    ∷ (moduleAt 1 2 (rect 0 3 1 1) 0 ∷ [])
+    ∷ (moduleAt 1 2 (rect 0 2 1 2) 0 ∷ [])
+    ∷ (moduleAt 0 5 (rect 0 0 1 1) 0 ∷ moduleAt 1 2 (rect 0 2 1 2) 0 ∷ [])
     ∷ []
 unfolding caseHolds history leastUnused slotIn
 slots-told = refl
+
+-- ---- a block (order 2): one column of four cells. Block 9 is set at row 1, in slot 0; module 1 comes above it, in slot 1, and goes; a remove and an exchange of the block are refused, 23, and
+-- note nothing; module 2 is pinned below it, in slot 1, which was freed
+
+abbrev pub storyHard : Story
+storyHard = record { w = 1; h = 4; slots = 3; block = eight 6 0 9 0 1 1 0 1 ++ pin 1 0 0 1 1 ++ remove 1 ++ remove 9 ++ eight 4 0 9 0 1 2 0 0 ++ pin 2 0 3 1 1 }
+
+abbrev hard9 : Module
+hard9 = moduleAt 0 9 (rect 0 1 1 1) 1
+
+pub hard-told : tellings storyHard ≡ (hard9 ∷ []) ∷ (moduleAt 1 1 (rect 0 0 1 1) 0 ∷ hard9 ∷ []) ∷ (hard9 ∷ []) ∷ (hard9 ∷ []) ∷ (hard9 ∷ []) ∷ (moduleAt 1 2 (rect 0 3 1 1) 0 ∷ hard9 ∷ []) ∷ []
+unfolding caseHolds history leastUnused slotIn
+hard-told = refl
+
+pub hard-afresh : reckonings storyHard
+    ≡ (e 1 ∷ o 1 ∷ e 1 ∷ e 2 ∷ [])
+    ∷ (o 1 ∷ o 1 ∷ e 1 ∷ e 2 ∷ [])
+    ∷ (e 1 ∷ o 1 ∷ e 1 ∷ e 2 ∷ [])
+    ∷ (e 1 ∷ o 1 ∷ e 1 ∷ e 2 ∷ [])
+    ∷ (e 1 ∷ o 1 ∷ e 1 ∷ e 2 ∷ [])
+    ∷ (e 1 ∷ o 1 ∷ e 1 ∷ o 1 ∷ [])
+    ∷ []
+unfolding caseHolds history leastUnused slotIn taken remains historyWeight
+hard-afresh = refl
+
+pub hard-weights : weighings storyHard ≡ reckonings storyHard
+unfolding caseHolds history leastUnused slotIn taken remains historyWeight
+hard-weights = refl
+
+-- its first three requests: the set, to the bottom edge; the pin above the block, and its removal: down to the block and no further
+pub hard-reached : reachings (record { w = 1; h = 4; slots = 3; block = eight 6 0 9 0 1 1 0 1 ++ pin 1 0 0 1 1 ++ remove 1 }) ≡ (1 ∷ 2 ∷ 3 ∷ []) ∷ (0 ∷ []) ∷ (0 ∷ []) ∷ []
+unfolding caseHolds reaches mayChange
+hard-reached = refl
 
 -- ---- the bottom rows in a room: three records, and bytes behind them
 

@@ -1,4 +1,4 @@
--- THE HISTORY: "the modules that the history of requests says are placed". It is worked out from requests and answers alone, as bytes; no table and no
+-- THE HISTORY: "the modules that the history of requests says are placed"; blocks "in demand 3 belong to the history" (order 2), each with its kind. It is worked out from requests and answers alone, as bytes; no table and no
 -- weights. q is the bytes of all requests, a those of all answers, one behind the other.
 use mathlib.Core.Bool.{Bool, false, not, cond, _||_}
 use mathlib.Core.List.{List, [], _∷_}
@@ -8,18 +8,19 @@ use lib.IntN.{ℤ, pos, negℤ}
 use lib.ListN.{getD}
 use Rattle.rules.specs.Tests.{least, keep, all}
 use Rattle.rules.specs.Surface.{rect, covers, upwards, number}
-use Rattle.rules.specs.Requests.{idAsked, isPlace, isRemove, isPin, isExchange}
+use Rattle.rules.specs.Requests.{idAsked, isPlace, isRemove, isPin, isExchange, isSet}
 use Rattle.rules.specs.Blocks.{request}
 use Rattle.rules.specs.declared.Rect.{Rect}
 
--- a module: its slot, its id and its rectangle
+-- a module or a block: its slot, its id, its rectangle and its kind ("0 a module, 1 a block")
 pub record Module : Type 0 where
   pub slot : ℕ
   pub id : ℕ
   pub place : Rect
+  pub kind : ℕ
 
-abbrev pub moduleAt : ℕ → ℕ → Rect → Module
-moduleAt i id r = record { slot = i; id = id; place = r }
+abbrev pub moduleAt : ℕ → ℕ → Rect → ℕ → Module
+moduleAt i id r kind = record { slot = i; id = id; place = r; kind = kind }
 
 -- "The answer is 8 bytes ..: code, operation and id as they came, then x, y, w, h"
 abbrev pub codeIn : List ℕ → ℕ
@@ -44,17 +45,18 @@ unfoldable pub slotIn : ℕ → List Module → ℕ
 slotIn id [] = 0
 slotIn id (m ∷ h) = cond (eqb (m .id) id) (m .slot) (slotIn id h)
 
--- a request q with the answer a: code 0 to place and pin adds the module, to remove takes the id's away, to exchange puts the new one for it; any
+-- a request q with the answer a: code 0 to place and pin adds the module, to a set the block, to remove takes the id's away, to exchange puts the new one for it; any
 -- other answer changes nothing
 abbrev pub noted : List ℕ → List ℕ → List Module → List Module
 noted q a h =
     let id = idAsked q in
     let r = placeIn a in
     cond (not (eqb (codeIn a) 0)) h
-    (cond (isPlace q || isPin q) (moduleAt (leastUnused h) id r ∷ h)
+    (cond (isPlace q || isPin q) (moduleAt (leastUnused h) id r 0 ∷ h)
+    (cond (isSet q) (moduleAt (leastUnused h) id r 1 ∷ h)
     (cond (isRemove q) (others id h)
-    (cond (isExchange q) (moduleAt (slotIn id h) id r ∷ others id h)
-    h)))
+    (cond (isExchange q) (moduleAt (slotIn id h) id r 0 ∷ others id h)
+    h))))
 
 -- the modules that the first k requests and answers say are placed
 unfoldable pub history : List ℕ → List ℕ → ℕ → List Module

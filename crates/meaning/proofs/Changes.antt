@@ -5,12 +5,12 @@ use mathlib.Core.Bool.{Bool, true, false, not, _&&_, _||_, true≢false}
 use mathlib.Core.List.{List}
 use Prim.Native.Nat.{ℕ, _+_, _-_, _*_, _≤_, _<_, zero, suc}
 use native.Mathlib.Omega.{arith}
-use borrow.Author.Tests.{eqb-true, eq-eqb}
-use lib.Dec.{eqb}
+use borrow.Author.Tests.{eqb-true, eq-eqb, le-leb}
+use lib.Dec.{leb, eqb}
 use lib.IntN.{ℤ}
 use lib.ListN.{length, getD}
 use Rattle.rules.specs.Tests.{every}
-use Rattle.rules.specs.Surface.{Standing, covers, slots, byte, idOf, rectOf, recordOf, freeRecord, freeSlot, usedSlot, withRecord, holds, occupied, cell, fresh}
+use Rattle.rules.specs.Surface.{Standing, covers, slots, byte, idOf, rectOf, kindOf, recordOf, freeRecord, freeSlot, usedSlot, withRecord, holds, occupied, cell, fresh}
 use Rattle.rules.specs.Empties.{cellsEmpty}
 use Rattle.rules.specs.Requests.{hasId, idPlaced}
 use Rattle.rules.specs.declared.Rect.{Rect}
@@ -26,7 +26,7 @@ use lib.Seq.{ext-getD, length-sets}
 use Rattle.meaning.proofs.Columns.{within-yes, covers-in}
 
 -- all cells of a rectangle are empty: each of them is
-empty-at : (occ : ℕ → ℕ → Bool) (r : Rect) → cellsEmpty occ r ≡ true → (x y : ℕ) → covers r x y ≡ true → occ x y ≡ false
+pub empty-at : (occ : ℕ → ℕ → Bool) (r : Rect) → cellsEmpty occ r ≡ true → (x y : ℕ) → covers r x y ≡ true → occ x y ≡ false
 empty-at occ r e x y k = let w = covers-within r x y k in cellsEmpty-at occ 0 0 r e x y (w .left) (w .right) (w .top) (w .bottom)
 
 -- slot i lies in a table of whole slots
@@ -35,25 +35,28 @@ slot-fits d l = let w = d .whole in omega arith
 
 -- ---- a module is put in
 
-module _ (W H : ℕ) (s : List ℤ) (t : List ℕ) (i low high : ℕ) (r : Rect) (p : Placing W H s t i low high r) where
+module _ (W H : ℕ) (s : List ℤ) (t : List ℕ) (i low high : ℕ) (r : Rect) (kind : ℕ) (p : Placing W H s t i low high r kind) where
   -- the table with it
   abbrev put : List ℕ
-  put = withRecord t i (recordOf low high r)
+  put = withRecord t i (recordOf low high r kind)
 
   fits : 8 * i + 8 ≤ length t
   fits = slot-fits (p .standing) (p .slot)
 
-  put-byte : (k : ℕ) → k < 8 → byte put i k ≡ getD (recordOf low high r) k 0
-  put-byte = record-byte t i (recordOf low high r) refl fits
+  put-byte : (k : ℕ) → k < 8 → byte put i k ≡ getD (recordOf low high r kind) k 0
+  put-byte = record-byte t i (recordOf low high r kind) refl fits
 
   pub put-alike : Alike t put i
-  put-alike = record-alike t i (recordOf low high r) refl fits
+  put-alike = record-alike t i (recordOf low high r kind) refl fits
 
   pub put-id : idOf put i ≡ low + 256 * high
   put-id = ap₂ (λ l h. l + 256 * h) (put-byte 0 (omega arith)) (put-byte 1 (omega arith))
 
   put-rect : rectOf put i ≡ r
   put-rect = rw (put-byte 2 (omega arith), put-byte 3 (omega arith), put-byte 4 (omega arith), put-byte 5 (omega arith))
+
+  pub put-kind : kindOf put i ≡ kind
+  put-kind = put-byte 6 (omega arith)
 
   put-used : freeSlot put i ≡ false
   put-used =
@@ -85,7 +88,8 @@ module _ (W H : ℕ) (s : List ℤ) (t : List ℕ) (i low high : ℕ) (r : Rect)
       (λ f. told-sound W H put i (record {
         id = omega (arith, put-id, p .some);
         place = subst (On W H) (sym put-rect) (p .place);
-        spare = and-both (eq-eqb (byte put i 6) 0 (put-byte 6 (omega arith))) (eq-eqb (byte put i 7) 0 (put-byte 7 (omega arith)));
+        kind = ap (λ k. leb k 1) put-kind ∙ le-leb kind 1 (p .known);
+        spare = eq-eqb (byte put i 7) 0 (put-byte 7 (omega arith));
       }))
       (λ j l ne. fails (sameId put i j) (λ e. let w = same-told put i j e in new-alone j l ne (w .1) (sym (w .2))))
       (λ x y j l ne. fails (holds put x y i && holds put x y j) (λ e. place-alone x y j l ne (and-left (holds put x y i) (holds put x y j) e) (and-right (holds put x y i) (holds put x y j) e)))
@@ -200,7 +204,7 @@ module _ (W H : ℕ) (s : List ℤ) (t : List ℕ) (i : ℕ) (p : Taking W H s t
 
   -- the record of the module that is taken out
   abbrev old : List ℕ
-  old = recordOf (byte t i 0) (byte t i 1) (rectOf t i)
+  old = recordOf (byte t i 0) (byte t i 1) (rectOf t i) (kindOf t i)
 
   -- THE ID IS THEN PLACED NO MORE
   pub id-gone : idPlaced gone (idOf t i) ≡ false
@@ -216,11 +220,11 @@ module _ (W H : ℕ) (s : List ℤ) (t : List ℕ) (i : ℕ) (p : Taking W H s t
       (ids-told t (standing-table W H s t (p .standing) .idsAre) i j (p .slot) (omega (arith, alike-slots a)) (λ z. ne (sym z))))))
 
   -- A MODULE UNDER ITS ID MAY BE PUT INTO ITS SLOT WHEREVER ALL CELLS ARE EMPTY THEN: s′ and t′ are what `take_out` left
-  pub exchange-placing : (low high : ℕ) (r : Rect) → low + 256 * high ≡ idOf t i → On W H r → cellsEmpty (occupied gone) r ≡ true →
-      (s′ : List ℤ) (t′ : List ℕ) → t′ ≡ gone → s′ ≡ fresh W H t′ → Placing W H s′ t′ i low high r
-  exchange-placing low high r id place free s′ t′ e d =
+  pub exchange-placing : (low high : ℕ) (r : Rect) (kind : ℕ) → kind ≤ 1 → low + 256 * high ≡ idOf t i → On W H r → cellsEmpty (occupied gone) r ≡ true →
+      (s′ : List ℤ) (t′ : List ℕ) → t′ ≡ gone → s′ ≡ fresh W H t′ → Placing W H s′ t′ i low high r kind
+  exchange-placing low high r kind k id place free s′ t′ e d =
       let o = taken-less W H s t i p in
-      let n : Placing W H (fresh W H gone) gone i low high r = record {
+      let n : Placing W H (fresh W H gone) gone i low high r kind = record {
         standing = take-stands W H s t i p;
         slot = o .slot;
         unused = o .unused;
@@ -228,15 +232,16 @@ module _ (W H : ℕ) (s : List ℤ) (t : List ℕ) (i : ℕ) (p : Taking W H s t
         empty = free;
         some = omega (arith, id, taken-sound W H s t i p .id);
         new = ap (idPlaced gone) id ∙ id-gone;
+        known = k;
       } in
-      subst₂ (λ a b. Placing W H a b i low high r) (sym (d ∙ ap (fresh W H) e)) (sym e) n
+      subst₂ (λ a b. Placing W H a b i low high r kind) (sym (d ∙ ap (fresh W H) e)) (sym e) n
 
   -- THE OLD MODULE MAY BE PUT BACK
-  pub back-placing : (low high : ℕ) (m : Rect) → low + 256 * high ≡ idOf t i → m ≡ rectOf t i →
-      (s′ : List ℤ) (t′ : List ℕ) → t′ ≡ gone → s′ ≡ fresh W H t′ → Placing W H s′ t′ i low high m
-  back-placing low high m id is s′ t′ e d =
-      subst (Placing W H s′ t′ i low high) (sym is)
-      (exchange-placing low high (rectOf t i) id (taken-sound W H s t i p .place) (empty-of (occupied gone) (rectOf t i) (taken-less W H s t i p .alone)) s′ t′ e d)
+  pub back-placing : (low high : ℕ) (m : Rect) (kind : ℕ) → kind ≤ 1 → low + 256 * high ≡ idOf t i → m ≡ rectOf t i →
+      (s′ : List ℤ) (t′ : List ℕ) → t′ ≡ gone → s′ ≡ fresh W H t′ → Placing W H s′ t′ i low high m kind
+  back-placing low high m kind k id is s′ t′ e d =
+      subst (λ m. Placing W H s′ t′ i low high m kind) (sym is)
+      (exchange-placing low high (rectOf t i) kind k id (taken-sound W H s t i p .place) (empty-of (occupied gone) (rectOf t i) (taken-less W H s t i p .alone)) s′ t′ e d)
 
   -- AND IT IS THE OLD TABLE AGAIN
   pub back-table : withRecord gone i old ≡ t
@@ -247,11 +252,6 @@ module _ (W H : ℕ) (s : List ℤ) (t : List ℕ) (i : ℕ) (p : Taking W H s t
       ∙ at-slot (withRecord t i old) t i (length-sets t (8 * i) old) (λ k l. record-byte t i old refl f k l ∙ old-byte k l)
       (λ k l. sets-low 0 old t (8 * i) k l) (λ k l. sets-high 0 old t (8 * i) k l)
     where
-      six : (byte t i 6 ≡ 0) × (byte t i 7 ≡ 0)
-      six =
-          let e = taken-sound W H s t i p .spare in
-          (eqb-true (byte t i 6) 0 (and-left (eqb (byte t i 6) 0) (eqb (byte t i 7) 0) e), eqb-true (byte t i 7) 0 (and-right (eqb (byte t i 6) 0) (eqb (byte t i 7) 0) e))
-
       old-byte : (k : ℕ) → k < 8 → getD old k 0 ≡ byte t i k
       old-byte zero l = refl
       old-byte (suc zero) l = refl
@@ -259,18 +259,18 @@ module _ (W H : ℕ) (s : List ℤ) (t : List ℕ) (i : ℕ) (p : Taking W H s t
       old-byte (suc (suc (suc zero))) l = refl
       old-byte (suc (suc (suc (suc zero)))) l = refl
       old-byte (suc (suc (suc (suc (suc zero))))) l = refl
-      old-byte (suc (suc (suc (suc (suc (suc zero)))))) l = sym (six .0)
-      old-byte (suc (suc (suc (suc (suc (suc (suc zero))))))) l = sym (six .1)
+      old-byte (suc (suc (suc (suc (suc (suc zero)))))) l = refl
+      old-byte (suc (suc (suc (suc (suc (suc (suc zero))))))) l = sym (eqb-true (byte t i 7) 0 (taken-sound W H s t i p .spare))
       old-byte (suc (suc (suc (suc (suc (suc (suc (suc k)))))))) l = absurd (omega arith)
 
   -- AND ALL IS AS IT WAS: s″ and t″ are what `put_in` left
-  pub back-left : (low high : ℕ) (m : Rect) → low ≡ byte t i 0 → high ≡ byte t i 1 → m ≡ rectOf t i →
-      (t′ : List ℕ) → t′ ≡ gone → (s″ : List ℤ) (t″ : List ℕ) → t″ ≡ withRecord t′ i (recordOf low high m) → s″ ≡ fresh W H t″ → (t″ ≡ t) × (s″ ≡ s)
-  back-left low high m a b is t′ e s″ t″ f d =
-      let old-of : recordOf low high m ≡ old = rw (a, b, is) in
+  pub back-left : (low high : ℕ) (m : Rect) (kind : ℕ) → low ≡ byte t i 0 → high ≡ byte t i 1 → m ≡ rectOf t i → kind ≡ kindOf t i →
+      (t′ : List ℕ) → t′ ≡ gone → (s″ : List ℤ) (t″ : List ℕ) → t″ ≡ withRecord t′ i (recordOf low high m kind) → s″ ≡ fresh W H t″ → (t″ ≡ t) × (s″ ≡ s)
+  back-left low high m kind a b is k t′ e s″ t″ f d =
+      let old-of : recordOf low high m kind ≡ old = rw (a, b, is, k) in
       let q : t″ ≡ t = f ∙ ap₂ (λ u r. withRecord u i r) e old-of ∙ back-table in
       (q, d ∙ ap (fresh W H) q ∙ sym (standing-fresh W H s t (p .standing)))
 
   -- a new module in the place of the old one: the record is written over the old one
-  pub exchange-table : (low high : ℕ) (r : Rect) → withRecord gone i (recordOf low high r) ≡ withRecord t i (recordOf low high r)
-  exchange-table low high r = record-over t i freeRecord (recordOf low high r) refl refl (slot-fits (p .standing) (p .slot))
+  pub exchange-table : (low high : ℕ) (r : Rect) (kind : ℕ) → withRecord gone i (recordOf low high r kind) ≡ withRecord t i (recordOf low high r kind)
+  exchange-table low high r kind = record-over t i freeRecord (recordOf low high r kind) refl refl (slot-fits (p .standing) (p .slot))

@@ -1,27 +1,29 @@
 -- WHAT A REQUEST OF EACH OPERATION COMES TO: which of 11 to 22 can apply to operation n is computed from n. Assumes nothing.
 use mathlib.Core.Path.{_≡_, refl, sym, ap, ap₂, _∙_, subst}
-use mathlib.Core.Bool.{true, false, not, _&&_, _||_}
+use mathlib.Core.Bool.{true, false, not, _&&_, _||_, false≢true}
 use mathlib.Core.List.{List, [], _∷_, _++_}
 use Prim.Native.Nat.{ℕ, _+_, _*_, _≤_, _<_}
 use native.Mathlib.Omega.{arith}
-use borrow.Author.Tests.{ltb-false, lt-ltb, le-ltb}
+use borrow.Author.Tests.{ltb-false, lt-ltb, le-ltb, eqb-true, ne-eqb}
 use lib.Dec.{ltb, eqb}
+use lib.ListN.{drop}
 use lib.IntN.{ℤ}
 use Rattle.rules.specs.Tests.{between, all}
-use Rattle.rules.specs.Surface.{Standing, slots, occupied}
+use Rattle.rules.specs.Surface.{Standing, slots, isHard, occupied}
 use Rattle.rules.specs.Empties.{cellsEmpty}
 use Rattle.rules.specs.Judging.{Line, _when_, first}
 use Rattle.meaning.specs.Numbers.{above}
-use Rattle.rules.specs.Requests.{operation, ruleOf, idAsked, wide, high, byte6, byte7, isPlace, isRemove, isPin, isExchange, byRule, needsOld, hasSize, zeros, pinned, idPlaced, slotOf, someFree, lowestFree, ground, position, rulePlace, anyCellTaken, soundLines, placeLines, judging, acceptedStep, judgedTo, stepOf}
-use Rattle.rules.specs.Place.{placeStep}
+use Rattle.rules.specs.Requests.{operation, ruleOf, idAsked, wide, high, byte6, byte7, isPlace, isRemove, isPin, isExchange, isSet, byRule, atPlace, needsOld, hasSize, zeros, pinned, idPlaced, slotOf, someFree, lowestFree, ground, position, rulePlace, anyCellTaken, soundLines, placeLines, judging, acceptedStep, judgedTo, stepOf}
+use Rattle.rules.specs.Place.{placeStep, pinStep}
 use Rattle.rules.specs.declared.Step.{Step}
 use Rattle.rules.specs.declared.Step.the-variants.{Refused}
 use Rattle.rules.proofs.Tests.{or-left, or-right}
 use Rattle.meaning.proofs.First.{first-stop, first-over}
-use Rattle.meaning.specs.Change.{Taking}
+use Rattle.meaning.specs.Change.{OldModule}
+use Rattle.meaning.proofs.Splits.{by-or, by-same}
 use Rattle.meaning.proofs.Tables.{lowest-some}
-use Rattle.meaning.proofs.Steps.{asking, then-false, sizes, Asked, asked, taking, stepOn, step-refused, ground-for}
-use Rattle.meaning.proofs.Steps.Asked.{place, remove, pin, exchange}
+use Rattle.meaning.proofs.Steps.{asking, then-false, sizes, AtPlace, at-place, Asked, asked, old-there, stepOn, step-refused, ground-for, ground-same}
+use Rattle.meaning.proofs.Steps.Asked.{place, remove, there, exchange}
 
 -- ---- which operation is which
 
@@ -37,10 +39,7 @@ module _ (q : List ℕ) where
   exchange-by e = or-right (isPlace q) (isExchange q) (is 4 e 4)
 
   pub by-sized : byRule q ≡ true → hasSize q ≡ true
-  by-sized e = or-left (byRule q) (isPin q) e
-
-  pub pin-sized : operation q ≡ 3 → hasSize q ≡ true
-  pin-sized e = or-right (byRule q) (isPin q) (is 3 e 3)
+  by-sized e = or-left (byRule q) (atPlace q) e
 
   pub remove-old : operation q ≡ 2 → needsOld q ≡ true
   remove-old e = or-left (isRemove q) (isExchange q) (is 2 e 2)
@@ -57,45 +56,41 @@ module _ (t q : List ℕ) (e : first (soundLines t q) ≡ 0) where
   pub size-some : hasSize q ≡ true → (1 ≤ wide q) × (1 ≤ high q)
   size-some = sizes t q (asking t q e)
 
-  -- the fourth operation is the last
-  pub last-op : (operation q ≡ 1 → ⊥) → (operation q ≡ 2 → ⊥) → (operation q ≡ 3 → ⊥) → operation q ≡ 4
+  -- the last operation of four
+  pub last-op : (operation q ≡ 1 → ⊥) → (operation q ≡ 2 → ⊥) → (operation q ≡ 4 → ⊥) → AtPlace q
   last-op a b c = go (asked q (asking t q e .op))
     where
-      go : Asked q → operation q ≡ 4
+      go : Asked q → AtPlace q
       go (place p) = absurd (a p)
       go (remove p) = absurd (b p)
-      go (pin p) = absurd (c p)
-      go (exchange p) = p
+      go (there p) = p
+      go (exchange p) = absurd (c p)
 
   -- the slot of the old module has it
-  pub old-taking : (W H : ℕ) (s : List ℤ) → Standing W H s t → needsOld q ≡ true → (i : ℕ) → i ≡ slotOf t (idAsked q) → Taking W H s t i
-  old-taking W H s d o i f = subst (Taking W H s t) (sym f) (taking W H s t q d (asking t q e) o .0)
-
--- all but an exchange are judged on the surface as it is
-pub ground-same : (t q : List ℕ) → isExchange q ≡ false → ground t q ≡ t
-unfolding ground
-ground-same t q e = rw e
+  pub old-in : (W H : ℕ) (s : List ℤ) → Standing W H s t → needsOld q ≡ true → (i : ℕ) → i ≡ slotOf t (idAsked q) → OldModule W H s t q i
+  old-in W H s d o i f = subst (OldModule W H s t q) (sym f) (old-there W H s t q d (asking t q e) o)
 
 -- ---- the lines for an operation n, where g is the ground on which its place is judged
 
 module _ (W H : ℕ) (t q : List ℕ) where
   abbrev soundFor : ℕ → List Line
   soundFor n =
-      11 when not (between 1 4 n) ∷
+      11 when not (between 1 4 n || eqb n 6) ∷
       12 when not (all (eqb 0) (zeros q)) ∷
       13 when ((eqb n 1 || eqb n 4) && ltb 2 (ruleOf q)) ∷
       14 when eqb (idAsked q) 0 ∷
-      15 when ((eqb n 1 || eqb n 3) && idPlaced t (idAsked q)) ∷
+      15 when ((eqb n 1 || (eqb n 3 || eqb n 6)) && idPlaced t (idAsked q)) ∷
       16 when ((eqb n 2 || eqb n 4) && not (idPlaced t (idAsked q))) ∷
-      17 when (((eqb n 1 || eqb n 4) || eqb n 3) && (eqb (wide q) 0 || eqb (high q) 0)) ∷
+      23 when ((eqb n 2 || eqb n 4) && isHard t (slotOf t (idAsked q))) ∷
+      17 when (((eqb n 1 || eqb n 4) || (eqb n 3 || eqb n 6)) && (eqb (wide q) 0 || eqb (high q) 0)) ∷
       []
 
   abbrev placeFor : List ℕ → ℕ → List Line
   placeFor g n =
-      18 when (eqb n 3 && (ltb W (byte6 q + wide q) || ltb H (byte7 q + high q))) ∷
-      19 when ((eqb n 1 || eqb n 3) && not (someFree t)) ∷
+      18 when ((eqb n 3 || eqb n 6) && (ltb W (byte6 q + wide q) || ltb H (byte7 q + high q))) ∷
+      19 when ((eqb n 1 || (eqb n 3 || eqb n 6)) && not (someFree t)) ∷
       20 when ((eqb n 1 || eqb n 4) && not (position (occupied g) W H (wide q) (high q))) ∷
-      21 when (eqb n 3 && not (cellsEmpty (occupied g) (pinned q))) ∷
+      21 when ((eqb n 3 || eqb n 6) && not (cellsEmpty (occupied g) (pinned q))) ∷
       22 when ((eqb n 1 || eqb n 4) && anyCellTaken (occupied g) (rulePlace (occupied g) W H (ruleOf q) (wide q) (high q))) ∷
       []
 
@@ -107,6 +102,12 @@ module _ (W H : ℕ) (t q : List ℕ) where
   unfolding stepOf placeLines acceptedStep
   step-by s g f n e = ap (λ c. judgedTo c (acceptedStep W H t q)) (first-over (soundLines t q) (placeLines W H t q) (unfold soundLines above in refl) s) ∙ ap₂ judgedFor f e
 
+  -- a set comes to what a pin does
+  pub step-there-by : first (soundLines t q) ≡ 0 → AtPlace q → stepOf W H t q ≡ judgedFor t 3
+  step-there-by s a =
+      let g = ground-same t q (a .noExchange) in
+      by-or (isPin q) (isSet q) (a .at) (λ p. step-by s t g 3 (eqb-true (operation q) 3 p)) (λ p. step-by s t g 6 (eqb-true (operation q) 6 p))
+
   pub step-unsound : (c : ℕ) → c ≡ first (soundLines t q) → (c ≡ 0 → ⊥) → Refused c ≡ stepOf W H t q
   step-unsound c e n =
       let j : first (judging W H t q) ≡ c = first-stop (soundLines t q) (placeLines W H t q) (λ z. n (e ∙ z)) ∙ sym e in
@@ -117,6 +118,28 @@ module _ (W H : ℕ) (t q : List ℕ) where
   unfolding stepOf soundLines placeLines acceptedStep placeStep first
   place-in-numbers e z r =
       ap₂ (λ g n. judgedTo (first (soundFor n ++ placeFor g n)) (stepOn W H t q g n)) (ground-for t q 1 e) e ∙ rw (z, le-ltb 2 (ruleOf q) r)
+
+  -- the byte that must be zero
+  rule-zero : AtPlace q → all (eqb 0) (zeros q) ≡ eqb (ruleOf q) 0
+  unfolding zeros all
+  rule-zero a =
+      let one : all (eqb 0) (zeros q) ≡ eqb 0 (ruleOf q) = rw (a .noRemove, a .at) in
+      one ∙ by-same (ruleOf q) 0 (λ e. rw e) (λ ne. ne-eqb 0 (ruleOf q) (λ e. ne (sym e)) ∙ sym (ne-eqb (ruleOf q) 0 ne))
+
+  -- A PIN AND A SET COME TO WHAT THE LINES FOR THEIR FIELDS SAY, on every table
+  pub step-there-is : AtPlace q → stepOf W H t q ≡ pinStep W H t q
+  unfolding stepOf soundLines placeLines acceptedStep pinStep first
+  step-there-is a =
+      let by : List ℕ → ℕ → Step = λ g n. judgedTo (first (soundFor n ++ placeFor g n)) (stepOn W H t q g n) in
+      ap (λ g. by g (operation q)) (ground-same t q (a .noExchange))
+      ∙ by-or (isPin q) (isSet q) (a .at) (λ p. ap (by t) (eqb-true (operation q) 3 p) ∙ rw (rule-zero a)) (λ p. ap (by t) (eqb-true (operation q) 6 p) ∙ rw (rule-zero a))
+
+-- so a set comes to what the pin with the same fields comes to
+pub set-step : (W H : ℕ) (t q : List ℕ) → isSet q ≡ true → stepOf W H t q ≡ stepOf W H t (3 ∷ drop 1 q)
+unfolding pinStep
+set-step W H t [] e = absurd (false≢true e)
+set-step W H t (a ∷ q) e =
+    step-there-is W H t (a ∷ q) (at-place (a ∷ q) (or-right (isPin (a ∷ q)) (isSet (a ∷ q)) e)) ∙ sym (step-there-is W H t (3 ∷ q) (at-place (3 ∷ q) refl))
 
 -- the request's bytes from the numbers: id is low + 256 · high
 pub place-bytes : (W H : ℕ) (t : List ℕ) (rule low high w h : ℕ) → rule ≤ 2 → stepOf W H t (1 ∷ rule ∷ low ∷ high ∷ w ∷ h ∷ 0 ∷ 0 ∷ []) ≡ placeStep W H t (low + 256 * high) rule w h

@@ -9,7 +9,7 @@ use lib.Dec.{leb, eqb}
 use lib.IntN.{ℤ}
 use lib.ListN.{length}
 use Rattle.rules.specs.Tests.{every}
-use Rattle.rules.specs.Surface.{slots, idOf, rectOf, spareZero, freeSlot, usedSlot, holds, occupied, holder, fresh, soundSlot, slotsSound, idsDiffer, modulesApart, stands, Sides, Standing}
+use Rattle.rules.specs.Surface.{slots, idOf, rectOf, kindKnown, spareZero, freeSlot, usedSlot, holds, occupied, holder, fresh, soundSlot, slotsSound, idsDiffer, modulesApart, stands, Sides, Standing}
 use Rattle.rules.proofs.Tests.{and-left, and-right, and-both, and-four, four-and, or-left, or-right, fails, not-both, every-at, every-yes}
 use Rattle.meaning.proofs.Splits.{by-test, by-or, by-less, by-same}
 use Rattle.meaning.proofs.Weights.{number-few, holds-used, holder-low, holder-holds, stands-cell, stands-slots, stands-ids, stands-apart, fresh-long, fresh-of, right-fresh}
@@ -22,6 +22,7 @@ use Rattle.meaning.proofs.Tables.{Alike, alike-slots, alike-free, alike
 pub record Sound (W H : ℕ) (t : List ℕ) (i : ℕ) : Type 0 where
   pub id : 1 ≤ idOf t i
   pub place : On W H (rectOf t i)
+  pub kind : kindKnown t i ≡ true
   pub spare : spareZero t i ≡ true
 
 module _ (W H : ℕ) (t : List ℕ) where
@@ -29,18 +30,19 @@ module _ (W H : ℕ) (t : List ℕ) where
   unfolding soundSlot
   sound-told i e =
       let r = rectOf t i in
-      let g = and-four (leb 1 (idOf t i) && leb 1 (r .w) && leb 1 (r .h)) (leb (r .x + r .w) W) (leb (r .y + r .h) H) (spareZero t i) e in
-      let f = and-four true (leb 1 (idOf t i)) (leb 1 (r .w)) (leb 1 (r .h)) (g .0) in
+      let g = and-four (leb 1 (idOf t i) && leb 1 (r .w) && leb 1 (r .h) && leb (r .x + r .w) W) (leb (r .y + r .h) H) (kindKnown t i) (spareZero t i) e in
+      let f = and-four (leb 1 (idOf t i)) (leb 1 (r .w)) (leb 1 (r .h)) (leb (r .x + r .w) W) (g .0) in
       record {
-        id = leb-true _ _ (f .1);
-        place = record { wide = leb-true _ _ (f .2); tall = leb-true _ _ (f .3); columns = leb-true _ _ (g .1); lines = leb-true _ _ (g .2) };
+        id = leb-true _ _ (f .0);
+        place = record { wide = leb-true _ _ (f .1); tall = leb-true _ _ (f .2); columns = leb-true _ _ (f .3); lines = leb-true _ _ (g .1) };
+        kind = g .2;
         spare = g .3;
       }
 
   pub told-sound : (i : ℕ) → Sound W H t i → soundSlot W H t i ≡ true
   unfolding soundSlot
   told-sound i s =
-      four-and (and-both (and-both (le-leb _ _ (s .id)) (le-leb _ _ (s .place .wide))) (le-leb _ _ (s .place .tall))) (le-leb _ _ (s .place .columns)) (le-leb _ _ (s .place .lines)) (s .spare)
+      four-and (four-and (le-leb _ _ (s .id)) (le-leb _ _ (s .place .wide)) (le-leb _ _ (s .place .tall)) (le-leb _ _ (s .place .columns))) (le-leb _ _ (s .place .lines)) (s .kind) (s .spare)
 
   -- every slot is free or sound
   pub slots-told : slotsSound W H t ≡ true → (i : ℕ) → i < slots t → freeSlot t i ≡ false → soundSlot W H t i ≡ true

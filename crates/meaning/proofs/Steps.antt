@@ -5,38 +5,41 @@ use mathlib.Core.List.{List}
 use mathlib.Core.Option.{some}
 use Prim.Native.Nat.{ℕ, zero, suc, _+_, _≤_}
 use native.Mathlib.Omega.{arith}
-use borrow.Author.Tests.{leb-true, ltb-true, ltb-false, eqb-false, ne-eqb, not-false}
+use borrow.Author.Tests.{leb-true, ltb-true, ltb-false, eqb-true, eqb-false, ne-eqb, not-false}
 use lib.Dec.{leb, ltb, eqb}
 use lib.IntN.{ℤ}
-use Rattle.rules.specs.Surface.{Standing, slots, idOf, rectOf, freeRecord, withRecord, occupied, recordOf, fresh}
+use lib.ListN.{length}
+use Rattle.rules.specs.Surface.{Standing, slots, rectOf, kindOf, isHard, freeRecord, withRecord, occupied, recordOf, fresh}
 use Rattle.rules.specs.Empties.{cellsEmpty, empty, onSurface, Empty}
 use Rattle.rules.specs.Judging.{first, NoneApplies}
 use Rattle.meaning.specs.Numbers.{above}
-use Rattle.rules.specs.Requests.{codeOf, isRemove, operation, ruleOf, idLow, idHigh, idAsked, wide, high, byte6, byte7, known, byRule, atPlace, makesNew, needsOld, hasSize, pinned, idPlaced, slotOf, someFree, lowestFree, ground, position, rulePlace, soundLines, placeLines, judging, orNone, acceptedStep, stepOf, recordAfter, tableAfter}
+use Rattle.rules.specs.Requests.{codeOf, isPlace, isRemove, isPin, isExchange, isSet, operation, ruleOf, idLow, idHigh, idAsked, wide, high, byte6, byte7, known, byRule, atPlace, makesNew, needsOld, hasSize, pinned, kindAsked, idPlaced, slotOf, someFree, lowestFree, ground, position, rulePlace, soundLines, placeLines, judging, orNone, acceptedStep, stepOf, recordAfter, tableAfter}
 use Rattle.rules.specs.declared.Rect.{Rect}
 use Rattle.rules.specs.declared.Step.{Step}
 use Rattle.rules.specs.declared.Step.the-variants.{Refused, Done}
-use Rattle.rules.proofs.Tests.{and-left, and-right, or-neither}
-use Rattle.meaning.proofs.Splits.{by-same}
+use Rattle.rules.specs.Tests.{between}
+use Rattle.rules.proofs.Tests.{and-left, and-right, or-left, or-right, or-neither}
+use Rattle.meaning.proofs.Splits.{split, by-same, by-or}
 use Rattle.meaning.proofs.Choice.{rule-finds, rulePlace-empty}
 use Rattle.meaning.proofs.Rectangles.{empty-is}
 use Rattle.meaning.specs.Change.StepOrRefusal.{same, refusal}
 use Rattle.meaning.specs.Change.Change.{puts, takes, swaps}
-use Rattle.meaning.specs.Change.{StepOrRefusal, Stricter, Newcomer, Change, On, Placing, Taking}
+use Rattle.meaning.specs.Change.{StepOrRefusal, Stricter, Newcomer, OldModule, Change, On, Placing, Taking}
 use Rattle.meaning.proofs.First.{none-applies, first-parts, first-above}
 use Rattle.meaning.proofs.Tables.{slot-placed, slot-has, lowest-some, lowest-is}
 use Rattle.rules.specs.Blocks.{withStep, State, request, after, afterBy, nextBy}
-use Rattle.meaning.proofs.Changes.{put-stands, take-stands, exchange-placing, exchange-table}
+use Rattle.meaning.proofs.Changes.{put-stands, taken-sound, take-stands, exchange-placing, exchange-table}
 
 -- ---- lines none of which applies
 
--- none of the conditions of 11 to 17
+-- none of the conditions of 11 to 17 and 23
 pub record Asking (t q : List ℕ) : Type 0 where
   pub op : known q ≡ true
   pub rule : (byRule q && ltb 2 (ruleOf q)) ≡ false
   pub id : 1 ≤ idAsked q
   pub new : (makesNew q && idPlaced t (idAsked q)) ≡ false
   pub old : (needsOld q && not (idPlaced t (idAsked q))) ≡ false
+  pub soft : (needsOld q && isHard t (slotOf t (idAsked q))) ≡ false
   pub size : (hasSize q && (eqb (wide q) 0 || eqb (high q) 0)) ≡ false
 
 pub asking : (t q : List ℕ) → first (soundLines t q) ≡ 0 → Asking t q
@@ -44,7 +47,7 @@ unfolding soundLines NoneApplies
 asking t q e =
     let n = none-applies (soundLines t q) (unfold soundLines above in refl) e in
     let i = eqb-false (idAsked q) 0 (n .1 .1 .1 .0) in
-    record { op = not-false (known q) (n .0); rule = n .1 .1 .0; id = omega arith; new = n .1 .1 .1 .1 .0; old = n .1 .1 .1 .1 .1 .0; size = n .1 .1 .1 .1 .1 .1 .0 }
+    record { op = not-false (known q) (n .0); rule = n .1 .1 .0; id = omega arith; new = n .1 .1 .1 .1 .0; old = n .1 .1 .1 .1 .1 .0; soft = n .1 .1 .1 .1 .1 .1 .0; size = n .1 .1 .1 .1 .1 .1 .1 .0 }
 
 -- none of the conditions of 18 to 22
 pub record Fitting (W H : ℕ) (t q : List ℕ) : Type 0 where
@@ -71,23 +74,36 @@ then-false false b p q = absurd (false≢true p)
 
 -- ---- the operation
 
+-- operations 3 and 6: at the place that they name
+pub record AtPlace (q : List ℕ) : Type 0 where
+  pub at : atPlace q ≡ true
+  pub noPlace : isPlace q ≡ false
+  pub noRemove : isRemove q ≡ false
+  pub noExchange : isExchange q ≡ false
+
+pub at-place : (q : List ℕ) → atPlace q ≡ true → AtPlace q
+at-place q e = by-or (isPin q) (isSet q) e (λ p. only 3 (eqb-true (operation q) 3 p) refl refl refl) (λ p. only 6 (eqb-true (operation q) 6 p) refl refl refl)
+  where
+    only : (n : ℕ) → operation q ≡ n → eqb n 1 ≡ false → eqb n 2 ≡ false → eqb n 4 ≡ false → AtPlace q
+    only n o a b c = record { at = e; noPlace = ap (λ n. eqb n 1) o ∙ a; noRemove = ap (λ n. eqb n 2) o ∙ b; noExchange = ap (λ n. eqb n 4) o ∙ c }
+
 pub data Asked (q : List ℕ) : Type 0 where
   place : operation q ≡ 1 → Asked q
   remove : operation q ≡ 2 → Asked q
-  pin : operation q ≡ 3 → Asked q
+  there : AtPlace q → Asked q
   exchange : operation q ≡ 4 → Asked q
 
 pub asked : (q : List ℕ) → known q ≡ true → Asked q
 asked q e =
-    go (operation q) refl
-    (leb-true 1 (operation q) (and-left (leb 1 (operation q)) (leb (operation q) 4) e))
-    (leb-true (operation q) 4 (and-right (leb 1 (operation q)) (leb (operation q) 4) e))
+    by-or (between 1 4 (operation q)) (isSet q) e
+    (λ b. go (operation q) refl (leb-true 1 (operation q) (and-left (leb 1 (operation q)) (leb (operation q) 4) b)) (leb-true (operation q) 4 (and-right (leb 1 (operation q)) (leb (operation q) 4) b)))
+    (λ b. there (at-place q (or-right (isPin q) (isSet q) b)))
   where
     go : (n : ℕ) → operation q ≡ n → 1 ≤ n → n ≤ 4 → Asked q
     go zero e a b = absurd (omega arith)
     go (suc zero) e a b = place e
     go (suc (suc zero)) e a b = remove e
-    go (suc (suc (suc zero))) e a b = pin e
+    go (suc (suc (suc zero))) e a b = there (at-place q (or-left (isPin q) (isSet q) (ap (λ n. eqb n 3) e)))
     go (suc (suc (suc (suc zero)))) e a b = exchange e
     go (suc (suc (suc (suc (suc n))))) e a b = absurd (omega arith)
 
@@ -117,13 +133,17 @@ module _ (W H : ℕ) (t q : List ℕ) where
   stepOn g n =
       cond (eqb n 1) (Done (lowestFree t) (chosenOn g))
       (cond (eqb n 2) (Done old (rectOf t old))
-      (cond (eqb n 3) (Done (lowestFree t) (pinned q))
+      (cond (eqb n 3 || eqb n 6) (Done (lowestFree t) (pinned q))
       (cond (eqb n 4) (Done old (chosenOn g))
       (Refused 11))))
 
   pub step-for : (n : ℕ) → operation q ≡ n → acceptedStep W H t q ≡ stepOn (ground t q) n
   unfolding acceptedStep
   step-for n e = ap (stepOn (ground t q)) e
+
+  step-there : AtPlace q → acceptedStep W H t q ≡ Done (lowestFree t) (pinned q)
+  unfolding acceptedStep
+  step-there a = rw (a .noPlace, a .noRemove, a .at)
 
 -- a step tells its slot and place, or its code
 pub done-slot : (i j : ℕ) (r m : Rect) → Done i r ≡ Done j m → j ≡ i
@@ -144,7 +164,7 @@ module _ (W H : ℕ) (t q : List ℕ) where
   done-is z = elim (asked q (judged W H t q z .0 .op)) [
     | place o ↦ (_, _, step-accepted W H t q z ∙ step-for W H t q 1 o)
     | remove o ↦ (_, _, step-accepted W H t q z ∙ step-for W H t q 2 o)
-    | pin o ↦ (_, _, step-accepted W H t q z ∙ step-for W H t q 3 o)
+    | there a ↦ (_, _, step-accepted W H t q z ∙ step-there W H t q a)
     | exchange o ↦ (_, _, step-accepted W H t q z ∙ step-for W H t q 4 o)
   ]
 
@@ -164,22 +184,34 @@ pub ground-for : (t q : List ℕ) (n : ℕ) → operation q ≡ n → ground t q
 unfolding ground
 ground-for t q n e = ap (λ n. cond (eqb n 4) (without t q) t) e
 
+-- all but an exchange are judged on the surface as it is
+pub ground-same : (t q : List ℕ) → isExchange q ≡ false → ground t q ≡ t
+unfolding ground
+ground-same t q e = rw e
+
 -- WHAT A REQUEST COMES TO
 pub data Came (W H : ℕ) (s : List ℤ) (t q : List ℕ) : Type 0 where
   refused : (first (judging W H t q) ≡ 0 → ⊥) → stepOf W H t q ≡ Refused (first (judging W H t q)) → Came W H s t q
   placed : (r : Rect) → operation q ≡ 1 → stepOf W H t q ≡ Done (lowestFree t) r → rulePlace (occupied (ground t q)) W H (ruleOf q) (wide q) (high q) ≡ some r →
-      Placing W H s t (lowestFree t) (idLow q) (idHigh q) r → Came W H s t q
-  removed : operation q ≡ 2 → stepOf W H t q ≡ Done (slotOf t (idAsked q)) (rectOf t (slotOf t (idAsked q))) →
-      Taking W H s t (slotOf t (idAsked q)) → idOf t (slotOf t (idAsked q)) ≡ idAsked q → Came W H s t q
-  put : operation q ≡ 3 → stepOf W H t q ≡ Done (lowestFree t) (pinned q) → Placing W H s t (lowestFree t) (idLow q) (idHigh q) (pinned q) → Came W H s t q
+      Placing W H s t (lowestFree t) (idLow q) (idHigh q) r (kindAsked q) → Came W H s t q
+  removed : operation q ≡ 2 → stepOf W H t q ≡ Done (slotOf t (idAsked q)) (rectOf t (slotOf t (idAsked q))) → OldModule W H s t q (slotOf t (idAsked q)) → Came W H s t q
+  put : AtPlace q → stepOf W H t q ≡ Done (lowestFree t) (pinned q) → Placing W H s t (lowestFree t) (idLow q) (idHigh q) (pinned q) (kindAsked q) → Came W H s t q
   exchanged : (r : Rect) → operation q ≡ 4 → stepOf W H t q ≡ Done (slotOf t (idAsked q)) r → rulePlace (occupied (ground t q)) W H (ruleOf q) (wide q) (high q) ≡ some r →
-      Taking W H s t (slotOf t (idAsked q)) → idOf t (slotOf t (idAsked q)) ≡ idAsked q → On W H r → cellsEmpty (occupied (without t q)) r ≡ true → Came W H s t q
+      OldModule W H s t q (slotOf t (idAsked q)) → On W H r → cellsEmpty (occupied (without t q)) r ≡ true → Came W H s t q
+
+-- what a request puts in is a module or a block
+pub kind-known : (q : List ℕ) → kindAsked q ≤ 1
+kind-known q = split (λ k. k ≤ 1) (isSet q) (λ e. omega arith) (λ e. omega arith)
 
 -- an empty rectangle, in two parts
 pub empty-parts : (occ : ℕ → ℕ → Bool) (W H : ℕ) (r : Rect) → Empty occ W H r → On W H r × (cellsEmpty occ r ≡ true)
 unfolding empty
 empty-parts occ W H r e =
     (record { wide = e .wide; tall = e .tall; columns = e .columns; lines = e .lines }, and-right (onSurface W H r) (cellsEmpty occ r) (empty-is occ W H r .1 e))
+
+-- what a remove or an exchange takes out is of kind 0
+pub module-kind : (W H : ℕ) (s : List ℤ) (t q : List ℕ) (i : ℕ) → OldModule W H s t q i → kindOf t i ≡ 0
+module-kind W H s t q i p = omega (arith, leb-true (kindOf t i) 1 (taken-sound W H s t i (p .taking) .kind), eqb-false (kindOf t i) 1 (p .soft))
 
 -- sizes, where the operation has them
 pub sizes : (t q : List ℕ) → Asking t q → hasSize q ≡ true → (1 ≤ wide q) × (1 ≤ high q)
@@ -190,13 +222,13 @@ sizes t q a e =
     (omega arith, omega arith)
 
 module _ (W H : ℕ) (s : List ℤ) (t q : List ℕ) (d : Standing W H s t) (a : Asking t q) where
-  -- the slot of an id that is placed
-  pub taking : needsOld q ≡ true → Taking W H s t (slotOf t (idAsked q)) × (idOf t (slotOf t (idAsked q)) ≡ idAsked q)
-  taking e =
+  -- the slot of an id that is placed, and is no block's
+  pub old-there : needsOld q ≡ true → OldModule W H s t q (slotOf t (idAsked q))
+  old-there e =
       let p : idPlaced t (idAsked q) ≡ true = not-false _ (then-false (needsOld q) _ e (a .old)) in
       let l = ltb-true (slotOf t (idAsked q)) (slots t) (slot-placed t (idAsked q) ∙ p) in
       let h = slot-has t (idAsked q) l in
-      (record { standing = d; slot = l; used = h .0 }, h .1)
+      record { at = refl; named = h .1; soft = then-false (needsOld q) _ e (a .soft); taking = record { standing = d; slot = l; used = h .0 } }
 
   module _ (f : Fitting W H t q) where
     -- a place by rule
@@ -208,7 +240,7 @@ module _ (W H : ℕ) (s : List ℤ) (t q : List ℕ) (d : Standing W H s t) (a :
         (r .0, r .1, rulePlace-empty (occupied (ground t q)) W H (ruleOf q) (wide q) (high q) (z .0) (z .1) (r .0) (r .1))
 
     -- a new module may be put into the lowest free slot
-    placing : makesNew q ≡ true → (r : Rect) → On W H r → cellsEmpty (occupied t) r ≡ true → Placing W H s t (lowestFree t) (idLow q) (idHigh q) r
+    placing : makesNew q ≡ true → (r : Rect) → On W H r → cellsEmpty (occupied t) r ≡ true → Placing W H s t (lowestFree t) (idLow q) (idHigh q) r (kindAsked q)
     placing e r o c =
         let p : someFree t ≡ true = not-false _ (then-false (makesNew q) _ e (f .room)) in
         let l = ltb-true (lowestFree t) (slots t) (lowest-some t ∙ p) in
@@ -220,34 +252,31 @@ module _ (W H : ℕ) (s : List ℤ) (t q : List ℕ) (d : Standing W H s t) (a :
           empty = c;
           some = a .id;
           new = then-false (makesNew q) _ e (a .new);
+          known = kind-known q;
         }
 
     came-for : first (judging W H t q) ≡ 0 → Asked q → Came W H s t q
     came-for z (place e) =
-        let c = chosen-place (ap (λ n. eqb n 1 || eqb n 4) e) (ap (λ n. (eqb n 1 || eqb n 4) || eqb n 3) e) in
+        let c = chosen-place (ap (λ n. eqb n 1 || eqb n 4) e) (ap (λ n. (eqb n 1 || eqb n 4) || (eqb n 3 || eqb n 6)) e) in
         let g : ground t q ≡ t = ground-for t q 1 e in
         let p = empty-parts (occupied t) W H (c .0) (subst (λ u. Empty (occupied u) W H (c .0)) g (c .2)) in
         placed (c .0) e (step-accepted W H t q z ∙ step-for W H t q 1 e ∙ ap (λ o. Done (lowestFree t) (orNone o)) (c .1)) (c .1)
-        (placing (ap (λ n. eqb n 1 || eqb n 3) e) (c .0) (p .0) (p .1))
-    came-for z (remove e) =
-        let k = taking (ap (λ n. eqb n 2 || eqb n 4) e) in
-        removed e (step-accepted W H t q z ∙ step-for W H t q 2 e) (k .0) (k .1)
-    came-for z (pin e) =
-        let at : atPlace q ≡ true = ap (λ n. eqb n 3) e in
-        let n = sizes t q a (ap (λ n. (eqb n 1 || eqb n 4) || eqb n 3) e) in
-        let b = or-neither (ltb W (byte6 q + wide q)) (ltb H (byte7 q + high q)) (then-false (atPlace q) _ at (f .on)) in
-        let c : cellsEmpty (occupied (ground t q)) (pinned q) ≡ true = not-false _ (then-false (atPlace q) _ at (f .clear)) in
-        let g : ground t q ≡ t = ground-for t q 3 e in
-        put e (step-accepted W H t q z ∙ step-for W H t q 3 e)
-        (placing (ap (λ n. eqb n 1 || eqb n 3) e) (pinned q)
+        (placing (ap (λ n. eqb n 1 || (eqb n 3 || eqb n 6)) e) (c .0) (p .0) (p .1))
+    came-for z (remove e) = removed e (step-accepted W H t q z ∙ step-for W H t q 2 e) (old-there (ap (λ n. eqb n 2 || eqb n 4) e))
+    came-for z (there e) =
+        let n = sizes t q a (or-right (byRule q) (atPlace q) (e .at)) in
+        let b = or-neither (ltb W (byte6 q + wide q)) (ltb H (byte7 q + high q)) (then-false (atPlace q) _ (e .at) (f .on)) in
+        let c : cellsEmpty (occupied (ground t q)) (pinned q) ≡ true = not-false _ (then-false (atPlace q) _ (e .at) (f .clear)) in
+        put e (step-accepted W H t q z ∙ step-there W H t q e)
+        (placing (or-right (isPlace q) (atPlace q) (e .at)) (pinned q)
         (record { wide = n .0; tall = n .1; columns = ltb-false W (byte6 q + wide q) (b .0); lines = ltb-false H (byte7 q + high q) (b .1) })
-        (subst (λ u. cellsEmpty (occupied u) (pinned q) ≡ true) g c))
+        (subst (λ u. cellsEmpty (occupied u) (pinned q) ≡ true) (ground-same t q (e .noExchange)) c))
     came-for z (exchange e) =
-        let c = chosen-place (ap (λ n. eqb n 1 || eqb n 4) e) (ap (λ n. (eqb n 1 || eqb n 4) || eqb n 3) e) in
-        let k = taking (ap (λ n. eqb n 2 || eqb n 4) e) in
+        let c = chosen-place (ap (λ n. eqb n 1 || eqb n 4) e) (ap (λ n. (eqb n 1 || eqb n 4) || (eqb n 3 || eqb n 6)) e) in
         let g : ground t q ≡ without t q = ground-for t q 4 e in
         let p = empty-parts (occupied (without t q)) W H (c .0) (subst (λ u. Empty (occupied u) W H (c .0)) g (c .2)) in
-        exchanged (c .0) e (step-accepted W H t q z ∙ step-for W H t q 4 e ∙ ap (λ o. Done (slotOf t (idAsked q)) (orNone o)) (c .1)) (c .1) (k .0) (k .1) (p .0) (p .1)
+        exchanged (c .0) e (step-accepted W H t q z ∙ step-for W H t q 4 e ∙ ap (λ o. Done (slotOf t (idAsked q)) (orNone o)) (c .1)) (c .1)
+        (old-there (ap (λ n. eqb n 2 || eqb n 4) e)) (p .0) (p .1)
 
 pub came : (W H : ℕ) (s : List ℤ) (t q : List ℕ) → Standing W H s t → Came W H s t q
 came W H s t q d =
@@ -258,8 +287,11 @@ came W H s t q d =
 -- ==== WHAT AN ACCEPTED REQUEST DOES TO THE TABLE
 
 -- an operation that makes a module
-newcomer : (q : List ℕ) (n : ℕ) → operation q ≡ n → (eqb n 1 || eqb n 3) ≡ true → eqb n 2 ≡ false → eqb n 4 ≡ false → Newcomer q
-newcomer q n e a b c = record { makes = ap (λ n. eqb n 1 || eqb n 3) e ∙ a; noRemove = ap (λ n. eqb n 2) e ∙ b; noExchange = ap (λ n. eqb n 4) e ∙ c }
+newcomer-place : (q : List ℕ) → operation q ≡ 1 → Newcomer q
+newcomer-place q e = record { makes = ap (λ n. eqb n 1 || (eqb n 3 || eqb n 6)) e; noRemove = ap (λ n. eqb n 2) e; noExchange = ap (λ n. eqb n 4) e }
+
+newcomer-there : (q : List ℕ) → AtPlace q → Newcomer q
+newcomer-there q a = record { makes = or-right (isPlace q) (atPlace q) (a .at); noRemove = a .noRemove; noExchange = a .noExchange }
 
 module _ (W H : ℕ) (s : List ℤ) (t q : List ℕ) (d : Standing W H s t) (i : ℕ) (r : Rect) (e : stepOf W H t q ≡ Done i r) where
   -- in the words of a case
@@ -269,30 +301,33 @@ module _ (W H : ℕ) (s : List ℤ) (t q : List ℕ) (d : Standing W H s t) (i :
   pub change : Change W H s t q i r
   change = elim (came W H s t q d) [
     | refused ne z ↦ done-refused i r _ (sym z ∙ e)
-    | placed m o z c p ↦ told (lowestFree t) m z (puts (newcomer q 1 o refl refl refl) refl p)
-    | put o z p ↦ told (lowestFree t) (pinned q) z (puts (newcomer q 3 o refl refl refl) refl p)
-    | removed o z p id ↦ told (slotOf t (idAsked q)) (rectOf t (slotOf t (idAsked q))) z (takes (ap (λ n. eqb n 2) o) (ap (λ n. eqb n 4) o) refl id refl p)
-    | exchanged m o z c p id on free ↦ told (slotOf t (idAsked q)) m z (swaps (ap (λ n. eqb n 2) o) (ap (λ n. eqb n 4) o) refl id p
-        (exchange-placing W H s t (slotOf t (idAsked q)) p (idLow q) (idHigh q) m (sym id) on free (fresh W H (without t q)) (without t q) refl refl))
+    | placed m o z c p ↦ told (lowestFree t) m z (puts (newcomer-place q o) refl p)
+    | put o z p ↦ told (lowestFree t) (pinned q) z (puts (newcomer-there q o) refl p)
+    | removed o z p ↦ told (slotOf t (idAsked q)) (rectOf t (slotOf t (idAsked q))) z (takes (ap (λ n. eqb n 2) o) (ap (λ n. eqb n 4) o) p refl)
+    | exchanged m o z c p on free ↦ told (slotOf t (idAsked q)) m z (swaps (ap (λ n. eqb n 2) o) (ap (λ n. eqb n 4) o) p
+        (exchange-placing W H s t (slotOf t (idAsked q)) (p .taking) (idLow q) (idHigh q) m (kindAsked q) (kind-known q) (sym (p .named)) on free (fresh W H (without t q)) (without t q) refl refl))
   ]
 
 -- the record that is written
-pub record-put : (q : List ℕ) (r : Rect) → isRemove q ≡ false → recordAfter q r ≡ recordOf (idLow q) (idHigh q) r
-record-put q r e = ap (λ b. cond b freeRecord (recordOf (idLow q) (idHigh q) r)) e
+pub record-put : (q : List ℕ) (r : Rect) → isRemove q ≡ false → recordAfter q r ≡ recordOf (idLow q) (idHigh q) r (kindAsked q)
+record-put q r e = ap (λ b. cond b freeRecord (recordOf (idLow q) (idHigh q) r (kindAsked q))) e
 
 pub record-free : (q : List ℕ) (r : Rect) → isRemove q ≡ true → recordAfter q r ≡ freeRecord
-record-free q r e = ap (λ b. cond b freeRecord (recordOf (idLow q) (idHigh q) r)) e
+record-free q r e = ap (λ b. cond b freeRecord (recordOf (idLow q) (idHigh q) r (kindAsked q))) e
+
+pub record-eight : (q : List ℕ) (r : Rect) → length (recordAfter q r) ≡ 8
+record-eight q r = split (λ l. length l ≡ 8) (isRemove q) (λ e. refl) (λ e. refl)
 
 -- the table that is left, in the words of the change
 module _ (W H : ℕ) (s : List ℤ) (t q : List ℕ) (i : ℕ) (r : Rect) where
-  pub put-leaves : isRemove q ≡ false → tableAfter q (Done i r) t ≡ withRecord t i (recordOf (idLow q) (idHigh q) r)
+  pub put-leaves : isRemove q ≡ false → tableAfter q (Done i r) t ≡ withRecord t i (recordOf (idLow q) (idHigh q) r (kindAsked q))
   put-leaves e = ap (withRecord t i) (record-put q r e)
 
   pub take-leaves : isRemove q ≡ true → tableAfter q (Done i r) t ≡ withRecord t i freeRecord
   take-leaves e = ap (withRecord t i) (record-free q r e)
 
-  pub swap-leaves : isRemove q ≡ false → Taking W H s t i → tableAfter q (Done i r) t ≡ withRecord (withRecord t i freeRecord) i (recordOf (idLow q) (idHigh q) r)
-  swap-leaves e p = put-leaves e ∙ sym (exchange-table W H s t i p (idLow q) (idHigh q) r)
+  pub swap-leaves : isRemove q ≡ false → Taking W H s t i → tableAfter q (Done i r) t ≡ withRecord (withRecord t i freeRecord) i (recordOf (idLow q) (idHigh q) r (kindAsked q))
+  swap-leaves e p = put-leaves e ∙ sym (exchange-table W H s t i p (idLow q) (idHigh q) r (kindAsked q))
 
 -- ---- a step that the rules give, or a refusal
 
@@ -323,9 +358,9 @@ step-stands W H q a (Done i r) k z =
     let by : (u : List ℕ) → tableAfter q (Done i r) t ≡ u → Standing W H (fresh W H u) u → StateStands W H (withStep W H q (Done i r) a) =
     λ u e. subst (λ v. Standing W H (fresh W H v) v) (sym e) in
     elim (change W H s t q z i r (accepted-as i r _ k)) [
-      | puts n l p ↦ by _ (put-leaves W H s t q i r (n .noRemove)) (put-stands W H s t i (idLow q) (idHigh q) r p)
-      | takes o x l id m p ↦ by _ (take-leaves W H s t q i r o) (take-stands W H s t i p)
-      | swaps o x l id p n ↦ by _ (swap-leaves W H s t q i r o p) (put-stands W H _ _ i (idLow q) (idHigh q) r n)
+      | puts n l p ↦ by _ (put-leaves W H s t q i r (n .noRemove)) (put-stands W H s t i (idLow q) (idHigh q) r (kindAsked q) p)
+      | takes o x p m ↦ by _ (take-leaves W H s t q i r o) (take-stands W H s t i (p .taking))
+      | swaps o x p n ↦ by _ (swap-leaves W H s t q i r o (p .taking)) (put-stands W H _ _ i (idLow q) (idHigh q) r (kindAsked q) n)
     ]
 
 -- ---- a block, by any stricter step function

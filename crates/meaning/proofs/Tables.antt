@@ -7,7 +7,7 @@ use native.Mathlib.Omega.{arith}
 use lib.Dec.{leb, eqb, ltb}
 use lib.ListN.{length, getD, set, length-set}
 use lib.Seq.{getD-set-same, getD-set-other, sets, length-sets}
-use Rattle.rules.specs.Surface.{covers, slots, byte, idOf, rectOf, spareZero, freeSlot, withRecord, holds, soundSlot, usedSlot}
+use Rattle.rules.specs.Surface.{covers, slots, byte, idOf, rectOf, kindOf, spareZero, freeSlot, withRecord, holds, soundSlot, usedSlot}
 use Rattle.rules.proofs.Tests.{every-same, least-is, any-yes, none-any, and-left, and-right, not-both, every-at, every-yes}
 use Rattle.meaning.proofs.Splits.{by-less}
 use borrow.Author.Count.{below-more}
@@ -70,8 +70,11 @@ module _ {t u : List ℕ} {i : ℕ} (a : Alike t u i) where
     pub alike-id : idOf u j ≡ idOf t j
     alike-id = ap₂ (λ l h. l + 256 * h) (a .bytes j 0 ne (omega arith)) (a .bytes j 1 ne (omega arith))
 
+    pub alike-kind : kindOf u j ≡ kindOf t j
+    alike-kind = a .bytes j 6 ne (omega arith)
+
     alike-spare : spareZero u j ≡ spareZero t j
-    alike-spare = ap₂ (λ l h. eqb l 0 && eqb h 0) (a .bytes j 6 ne (omega arith)) (a .bytes j 7 ne (omega arith))
+    alike-spare = ap (λ b. eqb b 0) (a .bytes j 7 ne (omega arith))
 
     pub alike-holds : (x y : ℕ) → holds u x y j ≡ holds t x y j
     unfolding holds
@@ -79,7 +82,10 @@ module _ {t u : List ℕ} {i : ℕ} (a : Alike t u i) where
 
     pub alike-sound : (W H : ℕ) → soundSlot W H u j ≡ soundSlot W H t j
     unfolding soundSlot
-    alike-sound W H = ap₂ _&&_ (ap₂ (λ d r. leb 1 d && leb 1 (r .w) && leb 1 (r .h) && leb (r .x + r .w) W && leb (r .y + r .h) H) alike-id alike-rect) alike-spare
+    alike-sound W H =
+        ap₂ _&&_
+        (ap₂ (λ a k. a && leb k 1) (ap₂ (λ d r. leb 1 d && leb 1 (r .w) && leb 1 (r .h) && leb (r .x + r .w) W && leb (r .y + r .h) H) alike-id alike-rect) alike-kind)
+        alike-spare
 
 -- ---- a record is written
 

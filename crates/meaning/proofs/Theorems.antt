@@ -2,19 +2,20 @@
 use mathlib.Core.Path.{_≡_, refl}
 use mathlib.Core.Bool.{Bool, true, not}
 use mathlib.Core.Logic.{_↔_}
-use mathlib.Core.List.{List, _∷_, _++_, List·Memᴰ}
+use mathlib.Core.List.{List, [], _∷_, _++_, List·Memᴰ}
 use mathlib.Core.Option.{some}
 use Prim.Native.Nat.{ℕ, suc, _+_, _-_, _*_, _≤_, _<_}
 use lib.Dec.{eqb}
 use lib.IntN.{ℤ, pos}
-use lib.ListN.{length}
+use lib.ListN.{length, drop}
 use lib.Signed.{ltZ}
 use Rattle.rules.specs.Tests.{count, keep}
 use Rattle.rules.specs.Surface.{occupied, cell, stands, usedSlots}
 use Rattle.rules.specs.Empties.{empty, maximal, Empty, Maximal, entries, Earlier, Ordered, scanned, scannedRows, corner, corners}
 use Rattle.rules.specs.Judging.{Line, first, NoneApplies, FirstThat}
-use Rattle.meaning.specs.Numbers.{above, hasCode, differ, rising}
-use Rattle.rules.specs.Requests.{position, rulePlace, soundLines, placeLines, judging, stepOf}
+use Rattle.meaning.specs.Numbers.{above, hasCode, differ, rising, codes}
+use Rattle.rules.specs.Requests.{isSet, atPlace, position, rulePlace, soundLines, placeLines, judging, stepOf}
+use Rattle.rules.specs.Place.{pinStep}
 use Rattle.rules.specs.Calls.{clearLines, checkLines, runLines, listLines}
 use Rattle.rules.specs.declared.Rect.{Rect}
 use Rattle.rules.specs.declared.Step.the-variants.{Refused}
@@ -28,6 +29,7 @@ use Rattle.meaning.proofs.Choice as P
 use Rattle.meaning.specs.Rule.{ByRule}
 use Rattle.meaning.proofs.First as L
 use Rattle.meaning.proofs.Steps as T
+use Rattle.meaning.proofs.Operations as Q
 
 -- ---- "A rectangle is empty when it lies on the surface and all its cells are empty. It is maximal when no other empty rectangle contains it."
 
@@ -118,6 +120,14 @@ first-one = L.first-one
 pub refused-code : (W H : ℕ) (t q : List ℕ) (c : ℕ) → stepOf W H t q ≡ Refused c → 11 ≤ c
 refused-code = T.refused-code
 
+-- "New operation 6 takes the fields of a pin .., with a pin's refusals in the same order", on every table: a pin and a set come to what the lines for their fields say, so a set comes to what the
+-- pin with the same fields comes to
+pub pin-step : (W H : ℕ) (t q : List ℕ) → atPlace q ≡ true → stepOf W H t q ≡ pinStep W H t q
+pin-step W H t q e = Q.step-there-is W H t q (T.at-place q e)
+
+pub set-step : (W H : ℕ) (t q : List ℕ) → isSet q ≡ true → stepOf W H t q ≡ stepOf W H t (3 ∷ drop 1 q)
+set-step = Q.set-step
+
 -- ---- "Given exactly when": where no code is 0 and no two are the same, a code names its line: it is given exactly when this line applies and none before it does
 
 pub given-exactly : (ls : List Line) (c : ℕ) → above 0 ls ≡ true → differ ls ≡ true → FirstThat ls c →
@@ -133,13 +143,15 @@ done-exactly = L.done-exactly
 pub lowest-given : (ls : List Line) (c : ℕ) → rising ls ≡ true → FirstThat ls c → (l : Line) → List·Memᴰ l ls → l .applies ≡ true → c ≤ l .code
 lowest-given = L.lowest
 
--- ---- each of the five lists is so: no code is 0, no two are the same, and they rise
+-- ---- each of the five lists is so: no code is 0 and no two are the same; those of the calls rise; that of a request has its codes in the order in which documents 01 and 02 name them, where
+-- 23 "follows 16", so that 23 comes before 17
 
 abbrev pub Numbered : List Line → Type 0
 Numbered ls = (above 0 ls ≡ true) × (differ ls ≡ true) × (rising ls ≡ true)
 
-pub request-numbers : (W H : ℕ) (t q : List ℕ) → Numbered (judging W H t q)
-unfolding soundLines placeLines above hasCode differ rising
+pub request-numbers : (W H : ℕ) (t q : List ℕ) →
+    (above 0 (judging W H t q) ≡ true) × (differ (judging W H t q) ≡ true) × (codes (judging W H t q) ≡ 11 ∷ 12 ∷ 13 ∷ 14 ∷ 15 ∷ 16 ∷ 23 ∷ 17 ∷ 18 ∷ 19 ∷ 20 ∷ 21 ∷ 22 ∷ [])
+unfolding soundLines placeLines above hasCode differ codes
 request-numbers W H t q = (refl, refl, refl)
 
 pub clear-numbers : (bad : Bool) (W H : ℕ) (t : List ℕ) → Numbered (clearLines bad W H t)

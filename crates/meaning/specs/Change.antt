@@ -5,9 +5,9 @@ use mathlib.Core.Logic.{_⊎_}
 use mathlib.Core.List.{List}
 use Prim.Native.Nat.{ℕ, _+_, _*_, _≤_, _<_}
 use lib.IntN.{ℤ}
-use Rattle.rules.specs.Surface.{Standing, slots, idOf, rectOf, freeRecord, freeSlot, withRecord, occupied, fresh}
+use Rattle.rules.specs.Surface.{Standing, slots, idOf, rectOf, isHard, freeRecord, freeSlot, withRecord, occupied, fresh}
 use Rattle.rules.specs.Empties.{cellsEmpty}
-use Rattle.rules.specs.Requests.{idLow, idHigh, idAsked, isRemove, isExchange, makesNew, idPlaced, slotOf, lowestFree, stepOf}
+use Rattle.rules.specs.Requests.{idLow, idHigh, idAsked, isRemove, isExchange, makesNew, kindAsked, idPlaced, slotOf, lowestFree, stepOf}
 use Rattle.rules.specs.declared.Rect.{Rect}
 use Rattle.rules.specs.declared.Step.{Step}
 use Rattle.rules.specs.declared.Step.the-variants.{Refused}
@@ -19,8 +19,8 @@ pub record On (W H : ℕ) (m : Rect) : Type 0 where
   pub columns : m .x + m .w ≤ W
   pub lines : m .y + m .h ≤ H
 
--- a module with a new id may be put into the free slot i, at the place r, whose cells are all empty
-pub record Placing (W H : ℕ) (s : List ℤ) (t : List ℕ) (i low high : ℕ) (r : Rect) : Type 0 where
+-- a module with a new id, or a block, by its kind, may be put into the free slot i, at the place r, whose cells are all empty
+pub record Placing (W H : ℕ) (s : List ℤ) (t : List ℕ) (i low high : ℕ) (r : Rect) (kind : ℕ) : Type 0 where
   pub standing : Standing W H s t
   pub slot : i < slots t
   pub unused : freeSlot t i ≡ true
@@ -28,6 +28,7 @@ pub record Placing (W H : ℕ) (s : List ℤ) (t : List ℕ) (i low high : ℕ) 
   pub empty : cellsEmpty (occupied t) r ≡ true
   pub some : 1 ≤ low + 256 * high
   pub new : idPlaced t (low + 256 * high) ≡ false
+  pub known : kind ≤ 1
 
 -- slot i has a module
 pub record Taking (W H : ℕ) (s : List ℤ) (t : List ℕ) (i : ℕ) : Type 0 where
@@ -59,9 +60,16 @@ pub record Newcomer (q : List ℕ) : Type 0 where
   pub noRemove : isRemove q ≡ false
   pub noExchange : isExchange q ≡ false
 
+-- slot i has the module that a remove or an exchange asks for. It is no block
+pub record OldModule (W H : ℕ) (s : List ℤ) (t q : List ℕ) (i : ℕ) : Type 0 where
+  pub at : i ≡ slotOf t (idAsked q)
+  pub named : idOf t i ≡ idAsked q
+  pub soft : isHard t i ≡ false
+  pub taking : Taking W H s t i
+
 -- WHAT AN ACCEPTED REQUEST q DOES: with the slot i and the rectangle r it puts a module in, takes one out, or takes one out and puts one in its place
 pub data Change (W H : ℕ) (s : List ℤ) (t q : List ℕ) (i : ℕ) (r : Rect) : Type 0 where
-  puts : Newcomer q → i ≡ lowestFree t → Placing W H s t i (idLow q) (idHigh q) r → Change W H s t q i r
-  takes : isRemove q ≡ true → isExchange q ≡ false → i ≡ slotOf t (idAsked q) → idOf t i ≡ idAsked q → r ≡ rectOf t i → Taking W H s t i → Change W H s t q i r
-  swaps : isRemove q ≡ false → isExchange q ≡ true → i ≡ slotOf t (idAsked q) → idOf t i ≡ idAsked q → Taking W H s t i →
-      Placing W H (fresh W H (withRecord t i freeRecord)) (withRecord t i freeRecord) i (idLow q) (idHigh q) r → Change W H s t q i r
+  puts : Newcomer q → i ≡ lowestFree t → Placing W H s t i (idLow q) (idHigh q) r (kindAsked q) → Change W H s t q i r
+  takes : isRemove q ≡ true → isExchange q ≡ false → OldModule W H s t q i → r ≡ rectOf t i → Change W H s t q i r
+  swaps : isRemove q ≡ false → isExchange q ≡ true → OldModule W H s t q i →
+      Placing W H (fresh W H (withRecord t i freeRecord)) (withRecord t i freeRecord) i (idLow q) (idHigh q) r (kindAsked q) → Change W H s t q i r

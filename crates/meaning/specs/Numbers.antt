@@ -24,3 +24,8 @@ differ (l ∷ ls) = not (hasCode (l .code) ls) && differ ls
 unfoldable pub rising : List Line → Bool
 rising [] = true
 rising (l ∷ ls) = above (l .code) ls && rising ls
+
+-- the codes in their order
+unfoldable pub codes : List Line → List ℕ
+codes [] = []
+codes (l ∷ ls) = l .code ∷ codes ls

@@ -31,10 +31,10 @@ module _ (W H : ℕ) (t u : List ℕ) (i : ℕ) (m : Rect) (o : OneMore t u i m)
       (λ c hc r hr. fresh-holds W H u c hc r hr ∙ weight-same (column u c) (beside m (number i m) (column t) c) r (λ q l. column-more t u i m o c q)))
 
 -- a module put in
-module _ (W H : ℕ) (s : List ℤ) (t : List ℕ) (i low high : ℕ) (r : Rect) (p : Placing W H s t i low high r) where
+module _ (W H : ℕ) (s : List ℤ) (t : List ℕ) (i low high : ℕ) (r : Rect) (kind : ℕ) (p : Placing W H s t i low high r kind) where
   -- weights with the module added are those of the table with its record
-  pub put-weights : (s′ : List ℤ) (t′ : List ℕ) → Added W H r (number i r) s s′ → t′ ≡ withRecord t i (recordOf low high r) → s′ ≡ fresh W H t′
-  put-weights s′ t′ a e = added-fresh W H t (withRecord t i (recordOf low high r)) i r (put-more W H s t i low high r p) s′ (p .standing .sides .wide) (subst (λ l. Added W H r (number i r) l s′) (standing-fresh W H s t (p .standing)) a) ∙ ap (fresh W H) (sym e)
+  pub put-weights : (s′ : List ℤ) (t′ : List ℕ) → Added W H r (number i r) s s′ → t′ ≡ withRecord t i (recordOf low high r kind) → s′ ≡ fresh W H t′
+  put-weights s′ t′ a e = added-fresh W H t (withRecord t i (recordOf low high r kind)) i r (put-more W H s t i low high r kind p) s′ (p .standing .sides .wide) (subst (λ l. Added W H r (number i r) l s′) (standing-fresh W H s t (p .standing)) a) ∙ ap (fresh W H) (sym e)
 
 -- a module taken out
 module _ (W H : ℕ) (s : List ℤ) (t : List ℕ) (i : ℕ) (p : Taking W H s t i) where

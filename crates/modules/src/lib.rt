@@ -107,14 +107,24 @@ fn remove(w: usize, h: usize, s: &mut [i16], x: usize, y: usize, mw: usize, mh: 
     }
 }
 
-// The module r is put into slot i, which is free, with the id low + 256·high.
-pub fn put_in(w: usize, h: usize, s: &mut [i16], t: &mut [u8], i: usize, low: u8, high: u8, r: Rect)
-    requires { ⌜ Placing w h (now s) (now t) i low high r ⌝ }
-    ensures { λ _. ⌜ now (t .exit) ≡ withRecord (now (t .entry)) i (recordOf low high r) ⌝ }
+// The module r, or the block, by its kind, is put into slot i, which is free, with the id low + 256·high.
+pub fn put_in(
+    w: usize,
+    h: usize,
+    s: &mut [i16],
+    t: &mut [u8],
+    i: usize,
+    low: u8,
+    high: u8,
+    r: Rect,
+    kind: u8,
+)
+    requires { ⌜ Placing w h (now s) (now t) i low high r kind ⌝ }
+    ensures { λ _. ⌜ now (t .exit) ≡ withRecord (now (t .entry)) i (recordOf low high r kind) ⌝ }
     ensures { λ _. ⌜ now (s .exit) ≡ fresh w h (now (t .exit)) ⌝ }
 {
     add(w, h, s, r.x, r.y, r.w, r.h);
-    table::put_record(t, i, low, high, r);
+    table::put_record(t, i, low, high, r, kind);
 }
 
 // The module of slot i is taken out: "A free slot is eight zero bytes".
@@ -131,5 +141,5 @@ pub fn take_out(w: usize, h: usize, s: &mut [i16], t: &mut [u8], i: usize)
         w: 0,
         h: 0,
     };
-    table::put_record(t, i, 0, 0, none);
+    table::put_record(t, i, 0, 0, none, 0);
 }

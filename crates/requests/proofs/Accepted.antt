@@ -7,21 +7,20 @@ use native.Mathlib.Omega.{arith}
 use borrow.Author.Tests.{ne-eqb, eqb-true}
 use lib.IntN.{ℤ}
 use Rattle.rules.specs.Surface.{Standing, recordOf, freeRecord, withRecord, fresh}
-use Rattle.rules.specs.Requests.{operation, idLow, idHigh, idAsked, isExchange, slotOf, ground, stepOf, answerOf, recordAfter, tableAfter, weightsAfter, acceptedOne, isRemove}
+use Rattle.rules.specs.Requests.{operation, idLow, idHigh, kindAsked, isExchange, ground, stepOf, answerOf, recordAfter, tableAfter, weightsAfter, acceptedOne, isRemove}
 use Rattle.rules.specs.declared.Rect.{Rect}
 use Rattle.rules.specs.declared.Step.{Step}
 use Rattle.rules.specs.declared.Step.the-variants.{Done}
-use Rattle.meaning.specs.Change.{On, Placing, Taking, Change}
+use Rattle.meaning.specs.Change.{On, Placing, OldModule, Change}
 use Rattle.table.specs.Record.{Bytes}
 use Rattle.meaning.proofs.Stands.{standing-fresh}
 use Rattle.meaning.proofs.Changes.{taken-sound, exchange-table}
 use Rattle.meaning.specs.Change.Change.{puts, takes, swaps}
-use Rattle.meaning.proofs.Steps.{change, ground-for, record-put, step-stands, rules-step}
+use Rattle.meaning.proofs.Steps.{change, ground-for, ground-same, record-put, step-stands, rules-step}
 use Rattle.rules.proofs.Tests.{not-both}
 use Rattle.rules.specs.Blocks.{started}
 use lib.Dec.{eqb}
 use Rattle.requests.specs.Steps.{tableLeft, weightsLeft, Judged, Changing, Served}
-use Rattle.meaning.proofs.Operations.{ground-same}
 
 -- ---- the change, operation by operation. s′ and t′ are those on which the request was judged
 
@@ -36,18 +35,18 @@ module _ (W H : ℕ) (s : List ℤ) (t q : List ℕ) (d : Standing W H s t) (i :
       let g : t ≡ t′ = sym (et ∙ ground-same t q x) in
       subst₂ (λ a b. Accepted W H q t i r a b) (standing-fresh W H s t d ∙ ap (fresh W H) g ∙ sym es) g (record { changing = c; over = refl })
 
-  exchange-accepted : isRemove q ≡ false → isExchange q ≡ true → i ≡ slotOf t (idAsked q) → Taking W H s t i →
-      Placing W H (fresh W H (withRecord t i freeRecord)) (withRecord t i freeRecord) i (idLow q) (idHigh q) r → Accepted W H q t i r s′ t′
-  exchange-accepted o x j p n =
-      let g : t′ ≡ withRecord t i freeRecord = et ∙ ground-for t q 4 (eqb-true (operation q) 4 x) ∙ ap (λ k. withRecord t k freeRecord) (sym j) in
+  exchange-accepted : isRemove q ≡ false → isExchange q ≡ true → OldModule W H s t q i →
+      Placing W H (fresh W H (withRecord t i freeRecord)) (withRecord t i freeRecord) i (idLow q) (idHigh q) r (kindAsked q) → Accepted W H q t i r s′ t′
+  exchange-accepted o x p n =
+      let g : t′ ≡ withRecord t i freeRecord = et ∙ ground-for t q 4 (eqb-true (operation q) 4 x) ∙ ap (λ k. withRecord t k freeRecord) (sym (p .at)) in
       let kept = record-put q r o in
       record {
         changing = record {
           place = n .place;
           taking = λ v. not-both (isRemove q) (ap (λ k. eqb k 2) v) o;
-          placing = λ _. subst₂ (λ a b. Placing W H a b i (idLow q) (idHigh q) r) (sym (es ∙ ap (fresh W H) g)) (sym g) n;
+          placing = λ _. subst₂ (λ a b. Placing W H a b i (idLow q) (idHigh q) r (kindAsked q)) (sym (es ∙ ap (fresh W H) g)) (sym g) n;
         };
-        over = ap₂ (λ u v. withRecord u i v) g kept ∙ exchange-table W H s t i p (idLow q) (idHigh q) r ∙ ap (withRecord t i) (sym kept);
+        over = ap₂ (λ u v. withRecord u i v) g kept ∙ exchange-table W H s t i (p .taking) (idLow q) (idHigh q) r (kindAsked q) ∙ ap (withRecord t i) (sym kept);
       }
 
   -- AN ACCEPTED REQUEST'S CHANGE MAY BE MADE
@@ -56,12 +55,12 @@ module _ (W H : ℕ) (s : List ℤ) (t q : List ℕ) (d : Standing W H s t) (i :
     where
       go : Change W H s t q i r → Accepted W H q t i r s′ t′
       go (puts n j p) = same-accepted (n .noExchange) (record { place = p .place; taking = λ v. not-both (isRemove q) (ap (λ k. eqb k 2) v) (n .noRemove); placing = λ _. p })
-      go (takes o x j id z p) = same-accepted x (record { place = subst (On W H) (sym z) (taken-sound W H s t i p .place); taking = λ _. p; placing = λ n. absurd (n (eqb-true (operation q) 2 o)) })
-      go (swaps o x j id p n) = exchange-accepted o x j p n
+      go (takes o x p z) = same-accepted x (record { place = subst (On W H) (sym z) (taken-sound W H s t i (p .taking) .place); taking = λ _. p .taking; placing = λ n. absurd (n (eqb-true (operation q) 2 o)) })
+      go (swaps o x p n) = exchange-accepted o x p n
 
 -- ---- what serving leaves
 
-pub record-new : (q : List ℕ) (r : Rect) → (operation q ≡ 2 → ⊥) → recordOf (idLow q) (idHigh q) r ≡ recordAfter q r
+pub record-new : (q : List ℕ) (r : Rect) → (operation q ≡ 2 → ⊥) → recordOf (idLow q) (idHigh q) r (kindAsked q) ≡ recordAfter q r
 record-new q r o = sym (record-put q r (ne-eqb (operation q) 2 o))
 
 -- a place on a surface is four bytes

@@ -1,16 +1,20 @@
--- Tests and sums of bytes: the bytes that must be zero. Assumes nothing.
+-- Tests and sums of bytes: the bytes that must be zero. And the lines of 11 to 17 and 23 in two parts. Assumes nothing.
 use mathlib.Core.Path.{_≡_, refl, sym, ap, _∙_}
 use mathlib.Core.Bool.{Bool, true, false, not, _&&_, _||_, and-true, and-false}
 use mathlib.Core.Logic.{⊎-elim}
-use mathlib.Core.List.{List, [], _∷_}
+use mathlib.Core.List.{List, [], _∷_, _++_}
 use Prim.Native.Nat.{ℕ, zero, suc, _+_}
 use native.Mathlib.Omega.{arith}
 use borrow.Author.Tests.{ne-eqb, ltb-true, ltb-false, lt-leb, le-leb}
 use lib.Dec.{leb, ltb, eqb}
 use Rattle.rules.specs.Tests.{all}
-use Rattle.rules.specs.Requests.{isRemove, isPin, byRule, ruleOf, wide, high, byte6, byte7, zeros}
+use Rattle.rules.specs.Requests.{isRemove, atPlace, byRule, ruleOf, idAsked, wide, high, byte6, byte7, zeros, slotOf, soundLines}
 use Rattle.rules.proofs.Tests.{decide}
-use Rattle.requests.specs.Steps.{stray}
+use Rattle.rules.specs.Judging.{first}
+use Rattle.meaning.specs.Numbers.{above}
+use Rattle.meaning.proofs.First.{first-stop, first-over}
+use Rattle.meaning.proofs.Tables.{slot-placed}
+use Rattle.requests.specs.Steps.{stray, formLines, idLines, Passes}
 
 -- ---- Bools
 
@@ -54,14 +58,29 @@ module _ (q : List ℕ) where
   unfolding stray zeros
   stray-remove p = rw p
 
-  pub stray-pin : (n : ℕ) → isRemove q ≡ false → isPin q ≡ true → n ≡ ruleOf q → not (eqb n 0) ≡ stray q
+  pub stray-there : (n : ℕ) → isRemove q ≡ false → atPlace q ≡ true → n ≡ ruleOf q → not (eqb n 0) ≡ stray q
   unfolding stray zeros
-  stray-pin n e f s = sum-is n (ruleOf q ∷ []) (omega arith) ∙ rw (e, f)
+  stray-there n e f s = sum-is n (ruleOf q ∷ []) (omega arith) ∙ rw (e, f)
 
-  pub stray-rule : (a b : ℕ) → isRemove q ≡ false → isPin q ≡ false → byRule q ≡ true → a ≡ byte6 q → b ≡ byte7 q → not (eqb (a + b) 0) ≡ stray q
+  pub stray-rule : (a b : ℕ) → isRemove q ≡ false → atPlace q ≡ false → byRule q ≡ true → a ≡ byte6 q → b ≡ byte7 q → not (eqb (a + b) 0) ≡ stray q
   unfolding stray zeros
   stray-rule a b e f g ea eb = sum-is (a + b) (byte6 q ∷ byte7 q ∷ []) (omega arith) ∙ rw (e, f, g)
 
-  pub stray-none : isRemove q ≡ false → isPin q ≡ false → byRule q ≡ false → false ≡ stray q
+  pub stray-none : isRemove q ≡ false → atPlace q ≡ false → byRule q ≡ false → false ≡ stray q
   unfolding stray zeros all
   stray-none e f g = rw (e, f, g)
+
+-- ---- the lines of 11 to 17 and 23, in two parts
+
+module _ (t q : List ℕ) where
+  sound-lines : (i : ℕ) → i ≡ slotOf t (idAsked q) → soundLines t q ≡ formLines q ++ idLines t q i
+  unfolding soundLines stray
+  sound-lines i e = rw (e, slot-placed t (idAsked q))
+
+  -- the request's own bytes refuse it
+  pub form-refuses : (c : ℕ) → c ≡ first (formLines q) → (c ≡ 0 → ⊥) → c ≡ first (soundLines t q)
+  form-refuses c e ne = e ∙ sym (ap first (sound-lines (slotOf t (idAsked q)) refl) ∙ first-stop (formLines q) (idLines t q (slotOf t (idAsked q))) (λ z. ne (e ∙ z)))
+
+  -- or the slot of its id decides
+  pub id-decides : (c d i : ℕ) → c ≡ first (formLines q) → c ≡ 0 → i ≡ slotOf t (idAsked q) → d ≡ first (idLines t q i) → d ≡ first (soundLines t q)
+  id-decides c d i e z f g = g ∙ sym (ap first (sound-lines i f) ∙ first-over (formLines q) (idLines t q i) (unfold above in refl) (sym e ∙ z))

@@ -21,18 +21,18 @@ use Rattle.rules.proofs.Tests.{or-neither, fails}
 use Rattle.meaning.proofs.Choice.{rule-finds}
 use Rattle.meaning.specs.Change.{On}
 use Rattle.meaning.proofs.Stands.{standing-fresh}
-use Rattle.meaning.proofs.Steps.{ground-for}
-use Rattle.meaning.proofs.Operations.{place-by, exchange-by, by-sized, size-some, ground-same, judgedFor, step-by}
+use Rattle.meaning.proofs.Steps.{AtPlace, ground-for, ground-same}
+use Rattle.meaning.proofs.Operations.{place-by, exchange-by, by-sized, size-some, judgedFor, step-by, step-there-by}
 use Rattle.choice.specs.Best.{codeOf, valuesOf, codeFor, Chosen}
 use Rattle.choice.specs.declared.Choice.{Choice}
 use Rattle.choice.specs.declared.Choice.the-variants.{At, Nowhere}
 use Rattle.requests.specs.Steps.{past, ruleStep, Passes, tableLeft, weightsLeft, Judged}
 
--- ---- pin
+-- ---- pin and set
 
-module _ (W H : ℕ) (t q : List ℕ) (s : Passes t q) (e : operation q ≡ 3) where
+module _ (W H : ℕ) (t q : List ℕ) (s : Passes t q) (a : AtPlace q) where
   pin-is : stepOf W H t q ≡ judgedFor W H t q t 3
-  pin-is = step-by W H t q s t (ground-for t q 3 e) 3 e
+  pin-is = step-there-by W H t q s a
 
   -- the three tests in their order. Those behind one that refuses may come to anything
   pub pin-tested : (p f b : Bool) → past W H (pinned q) ≡ p → someFree t ≡ f → cellsEmpty (occupied t) (pinned q) ≡ b →

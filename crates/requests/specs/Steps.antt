@@ -1,17 +1,17 @@
 -- WHAT JUDGING, SERVING AND RUNNING LEAVE, in the words of the rules. q is a request's eight bytes; s and t are weights and table before, s′ and t′ after.
 use mathlib.Core.Path.{_≡_}
-use mathlib.Core.Bool.{Bool, not, cond, _||_}
-use mathlib.Core.List.{List, _++_}
+use mathlib.Core.Bool.{Bool, not, cond, _&&_, _||_}
+use mathlib.Core.List.{List, [], _∷_, _++_}
 use mathlib.Core.Option.{Option, none, some}
 use Prim.Native.Nat.{ℕ, _+_, _≤_}
 use lib.Dec.{ltb, eqb}
 use lib.IntN.{ℤ}
 use lib.ListN.{length, take, drop}
 use Rattle.rules.specs.Tests.{all}
-use Rattle.rules.specs.Surface.{Standing, fresh}
+use Rattle.rules.specs.Surface.{Standing, slots, isHard, fresh}
 use Rattle.rules.specs.Empties.{cellsEmpty}
-use Rattle.rules.specs.Judging.{first}
-use Rattle.rules.specs.Requests.{operation, idLow, idHigh, zeros, soundLines, ground, stepOf, answerOf, tableAfter, weightsAfter, acceptedOne}
+use Rattle.rules.specs.Judging.{Line, _when_, first}
+use Rattle.rules.specs.Requests.{operation, ruleOf, idLow, idHigh, idAsked, wide, high, known, byRule, makesNew, needsOld, hasSize, zeros, kindAsked, soundLines, ground, stepOf, answerOf, tableAfter, weightsAfter, acceptedOne}
 use Rattle.rules.specs.Blocks.{State}
 use Rattle.rules.specs.declared.Rect.{Rect}
 use Rattle.rules.specs.declared.Step.{Step}
@@ -31,7 +31,25 @@ unfoldable pub ruleStep : (ℕ → ℕ → Bool) → ℕ → Option Rect → Ste
 ruleStep occ i none = Refused 20
 ruleStep occ i (some r) = cond (cellsEmpty occ r) (Done i r) (Refused 22)
 
--- a request that none of the codes 11 to 17 refuses
+-- the lines of 11 to 14 are of the request's bytes alone ..
+abbrev pub formLines : List ℕ → List Line
+formLines q =
+    11 when not (known q) ∷
+    12 when stray q ∷
+    13 when (byRule q && ltb 2 (ruleOf q)) ∷
+    14 when eqb (idAsked q) 0 ∷
+    []
+
+-- .. and those of 15, 16, 23 and 17 of the slot that has its id too: i is that slot, or the number of slots where none has
+abbrev pub idLines : List ℕ → List ℕ → ℕ → List Line
+idLines t q i =
+    15 when (makesNew q && ltb i (slots t)) ∷
+    16 when (needsOld q && not (ltb i (slots t))) ∷
+    23 when (needsOld q && isHard t i) ∷
+    17 when (hasSize q && (eqb (wide q) 0 || eqb (high q) 0)) ∷
+    []
+
+-- a request that none of the codes 11 to 17 and 23 refuses
 abbrev pub Passes : List ℕ → List ℕ → Type 0
 Passes t q = first (soundLines t q) ≡ 0
 
@@ -53,7 +71,7 @@ pub record Judged (W H : ℕ) (q : List ℕ) (s : List ℤ) (t : List ℕ) (s′
 pub record Changing (W H : ℕ) (q : List ℕ) (s : List ℤ) (t : List ℕ) (i : ℕ) (r : Rect) : Type 0 where
   pub place : On W H r
   pub taking : operation q ≡ 2 → Taking W H s t i
-  pub placing : (operation q ≡ 2 → ⊥) → Placing W H s t i (idLow q) (idHigh q) r
+  pub placing : (operation q ≡ 2 → ⊥) → Placing W H s t i (idLow q) (idHigh q) r (kindAsked q)
 
 -- a request is served: weights, table, its answer's eight bytes, and 1 where it is accepted
 pub record Served (W H : ℕ) (q : List ℕ) (s : List ℤ) (t : List ℕ) (s′ : List ℤ) (t′ a : List ℕ) (n : ℕ) : Type 0 where

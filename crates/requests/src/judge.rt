@@ -3,13 +3,15 @@ ghost use mathlib.Core.Path.{_≡_};
 ghost use Prim.Native.Nat.{_+_, _*_, _≤_, _<_};
 ghost use lib.ListN.{length};
 ghost use Rattle.rules.specs.Surface.{Standing, occupied};
-ghost use Rattle.rules.specs.Requests.{operation, ruleOf, wide, high, rulePlace, stepOf};
+ghost use mathlib.Core.Bool.{true};
+ghost use Rattle.rules.specs.Requests.{operation, ruleOf, idAsked, wide, high, atPlace, slotOf, rulePlace, stepOf};
 ghost use Rattle.table.specs.Record.{Bytes};
 ghost use Rattle.requests.specs.Steps.{past, ruleStep, Passes, Judged};
 use super::fields::byte;
 use super::fields::id_asked;
 use super::fields::pinned;
-use super::sound::sound_code;
+use super::sound::form_code;
+use super::sound::id_code;
 use choice::Choice;
 use rules::Rect;
 use rules::Step;
@@ -44,13 +46,12 @@ fn judge_place(w: usize, h: usize, s: &[i16], t: &[u8], q: &[u8]) -> Step
     by_rule(w, h, s, t, q, i)
 }
 
-// Operation 2: nothing else can refuse it.
-fn judge_remove(w: usize, h: usize, s: &[i16], t: &[u8], q: &[u8]) -> Step
+// Operation 2, of the module in slot i: nothing else can refuse it.
+fn judge_remove(w: usize, h: usize, s: &[i16], t: &[u8], q: &[u8], i: usize) -> Step
     requires { ⌜ Standing w h (now s) (now t) ⌝ }
-    requires { ⌜ (length (now q) ≡ 8) × Passes (now t) (now q) × (operation (now q) ≡ 2) ⌝ }
+    requires { ⌜ (length (now q) ≡ 8) × Passes (now t) (now q) × (operation (now q) ≡ 2) × (i ≡ slotOf (now t) (idAsked (now q))) ⌝ }
     ensures { λ r. ⌜ r ≡ stepOf w h (now (t .entry)) (now (q .entry)) ⌝ }
 {
-    let i = table::slot_of(t, id_asked(q));
     Step::Done(i, table::rect_at(t, i))
 }
 
@@ -65,10 +66,10 @@ fn is_past(w: usize, h: usize, r: Rect) -> bool
     h < r.y + r.h
 }
 
-// Operation 3. 18: past the edge. 19: no free slot. 21: a cell of the place is occupied.
+// Operations 3 and 6: "takes the fields of a pin .., with a pin's refusals in the same order". 18: past the edge. 19: no free slot. 21: a cell of the place is occupied.
 fn judge_pin(w: usize, h: usize, s: &[i16], t: &[u8], q: &[u8]) -> Step
     requires { ⌜ Standing w h (now s) (now t) ⌝ }
-    requires { ⌜ (length (now q) ≡ 8) × Passes (now t) (now q) × (operation (now q) ≡ 3) ⌝ }
+    requires { ⌜ (length (now q) ≡ 8) × Passes (now t) (now q) × (atPlace (now q) ≡ true) ⌝ }
     ensures { λ r. ⌜ r ≡ stepOf w h (now (t .entry)) (now (q .entry)) ⌝ }
 {
     let r = pinned(q);
@@ -85,13 +86,12 @@ fn judge_pin(w: usize, h: usize, s: &[i16], t: &[u8], q: &[u8]) -> Step
     Step::Refused(21)
 }
 
-// Operation 4: "judged on the surface without the old module and keeps its slot; refused, the old one stays".
-fn judge_exchange(w: usize, h: usize, s: &mut [i16], t: &mut [u8], q: &[u8]) -> Step
+// Operation 4, of the module in slot i: "judged on the surface without the old module and keeps its slot; refused, the old one stays".
+fn judge_exchange(w: usize, h: usize, s: &mut [i16], t: &mut [u8], q: &[u8], i: usize) -> Step
     requires { ⌜ Standing w h (now s) (now t) ⌝ }
-    requires { ⌜ (length (now q) ≡ 8) × Passes (now t) (now q) × (operation (now q) ≡ 4) ⌝ }
+    requires { ⌜ (length (now q) ≡ 8) × Passes (now t) (now q) × (operation (now q) ≡ 4) × (i ≡ slotOf (now t) (idAsked (now q))) ⌝ }
     ensures { λ r. ⌜ Judged w h (now (q .entry)) (now (s .entry)) (now (t .entry)) (now (s .exit)) (now (t .exit)) r ⌝ }
 {
-    let i = table::slot_of(t, id_asked(q));
     let at = 8 * i;
     let low = t[at];
     let high = t[at + 1];
@@ -99,30 +99,35 @@ fn judge_exchange(w: usize, h: usize, s: &mut [i16], t: &mut [u8], q: &[u8]) -> 
     modules::take_out(w, h, s, t, i);
     let d = by_rule(w, h, s, t, q, i);
     let Step::Done(_, _) = d else {
-        modules::put_in(w, h, s, t, i, low, high, old);
+        modules::put_in(w, h, s, t, i, low, high, old, 0);
         return d;
     };
     d
 }
 
-// What the request comes to. Where it is refused, weights and table are as they were; else they are those on which it was judged.
+// What the request comes to; the slot of its id is looked for once. Where it is refused, weights and table are as they were; else they are those on which it was judged.
 pub fn judge(w: usize, h: usize, s: &mut [i16], t: &mut [u8], q: &[u8]) -> Step
     requires { ⌜ Standing w h (now s) (now t) ⌝ }
     requires { ⌜ length (now q) ≡ 8 ⌝ }
     ensures { λ r. ⌜ Judged w h (now (q .entry)) (now (s .entry)) (now (t .entry)) (now (s .exit)) (now (t .exit)) r ⌝ }
 {
-    let c = sound_code(t, q);
+    let c = form_code(q);
     if c != 0 {
         return Step::Refused(c);
+    }
+    let i = table::slot_of(t, id_asked(q));
+    let d = id_code(t, q, i);
+    if d != 0 {
+        return Step::Refused(d);
     }
     if q[0] == 1 {
         return judge_place(w, h, s, t, q);
     }
     if q[0] == 2 {
-        return judge_remove(w, h, s, t, q);
+        return judge_remove(w, h, s, t, q, i);
     }
-    if q[0] == 3 {
-        return judge_pin(w, h, s, t, q);
+    if q[0] == 4 {
+        return judge_exchange(w, h, s, t, q, i);
     }
-    judge_exchange(w, h, s, t, q)
+    judge_pin(w, h, s, t, q)
 }

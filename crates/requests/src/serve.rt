@@ -3,7 +3,7 @@ ghost use mathlib.Core.Path.{_≡_};
 ghost use mathlib.Core.List.{[], _∷_};
 ghost use lib.ListN.{length};
 ghost use Rattle.rules.specs.Surface.{Standing, withRecord, fresh};
-ghost use Rattle.rules.specs.Requests.{operation, idLow, idHigh, codeOf, answerOf, recordAfter};
+ghost use Rattle.rules.specs.Requests.{operation, idLow, idHigh, kindAsked, codeOf, answerOf, recordAfter};
 ghost use Rattle.rules.specs.declared.Step.the-variants.{Refused};
 ghost use Rattle.table.specs.Record.{Bytes};
 ghost use Rattle.requests.specs.Steps.{Changing, Served};
@@ -53,8 +53,19 @@ pub fn refuse(q: &[u8], a: &mut [u8], code: u8)
     answer(q, a, code, none);
 }
 
-// Operation 2 takes the module of slot i out. The others put the module r there, under the request's id: an exchange into the slot that judging
-// it has freed, so the record stays in its slot.
+// The kind of what a request puts in: "0 a module, 1 a block".
+fn kind_asked(q: &[u8]) -> u8
+    requires { ⌜ length (now q) ≡ 8 ⌝ }
+    ensures { λ r. ⌜ r ≡ kindAsked (now (q .entry)) ⌝ }
+{
+    if q[0] == 6 {
+        return 1;
+    }
+    0
+}
+
+// Operation 2 takes the module of slot i out. The others put the module r there, or the block, under the request's id: an exchange into the slot that
+// judging it has freed, so the record stays in its slot.
 fn change(w: usize, h: usize, s: &mut [i16], t: &mut [u8], q: &[u8], i: usize, r: Rect)
     requires { ⌜ length (now q) ≡ 8 ⌝ }
     requires { ⌜ Changing w h (now q) (now s) (now t) i r ⌝ }
@@ -65,7 +76,7 @@ fn change(w: usize, h: usize, s: &mut [i16], t: &mut [u8], q: &[u8], i: usize, r
         modules::take_out(w, h, s, t, i);
         return;
     }
-    modules::put_in(w, h, s, t, i, q[2], q[3], r);
+    modules::put_in(w, h, s, t, i, q[2], q[3], r, kind_asked(q));
 }
 
 // "A refused request changes neither weights nor table": refusal leads straight to its answer. The result is 1 where it is accepted.

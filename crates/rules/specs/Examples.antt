@@ -1,4 +1,4 @@
--- Examples beside the worked figures, computed: what corners do not tell, the bound of order 1 met and not met, and cases that A to I do not tell apart.
+-- Examples beside the worked figures, computed: what corners do not tell, the bound of order 1 met and not met, cases that A to I do not tell apart, and the blocks of order 2.
 use mathlib.Core.Path.{_≡_, refl}
 use mathlib.Core.Bool.{Bool, true, not, _&&_}
 use mathlib.Core.List.{List, [], _∷_, _++_}
@@ -8,14 +8,14 @@ use lib.ListN.{length, replicate}
 use Rattle.rules.specs.Tests.{all}
 use Rattle.rules.specs.Surface.{rect, recordOf, occupied, fresh}
 use Rattle.rules.specs.Empties.{entries, scannedRows, corner, corners}
-use Rattle.rules.specs.Figures.{check, list, Case, caseHolds, eight, free, e, o}
+use Rattle.rules.specs.Figures.{clear, check, list, Case, caseHolds, eight, free, e, o}
 use Rattle.rules.specs.declared.Rect.{Rect}
 
 -- ---- "the reverse does not hold": 3×2 with modules at (0, 1) and (1, 0). Row 0 is scanned, for the first module's sake; (2, 0) stands in the
 -- last column, so it is a corner; the only maximal rectangle over it goes on down to row 1
 
 abbrev besides : List ℕ
-besides = recordOf 1 0 (rect 0 1 1 1) ++ recordOf 2 0 (rect 1 0 1 1)
+besides = recordOf 1 0 (rect 0 1 1 1) 0 ++ recordOf 2 0 (rect 1 0 1 1) 0
 
 abbrev endsAt : ℕ → ℕ → Rect → Bool
 endsAt x y r = eqb (r .x + r .w - 1) x && eqb (r .y + r .h - 1) y
@@ -28,10 +28,10 @@ corner-of-none = refl
 -- ---- no weight tells which rows are scanned: 2×3 with two 1×1 modules at (0, 1) and (0, 2), or with one 1×2 module at (0, 1)
 
 abbrev two : List ℕ
-two = recordOf 1 0 (rect 0 1 1 1) ++ recordOf 2 0 (rect 0 2 1 1)
+two = recordOf 1 0 (rect 0 1 1 1) 0 ++ recordOf 2 0 (rect 0 2 1 1) 0
 
 abbrev one : List ℕ
-one = recordOf 1 0 (rect 0 1 1 2) ++ free
+one = recordOf 1 0 (rect 0 1 1 2) 0 ++ free
 
 -- EQUAL WEIGHTS, EQUAL LISTS, AND 3 CORNERS THERE, 2 HERE
 pub same-weights : fresh 2 3 two ≡ fresh 2 3 one
@@ -50,7 +50,7 @@ other-corners = (refl, refl)
 
 -- one 1×1 module at (0, 0), which adds no scanned row
 abbrev topLeft : List ℕ
-topLeft = recordOf 1 0 (rect 0 0 1 1)
+topLeft = recordOf 1 0 (rect 0 0 1 1) 0
 
 abbrev room : ℕ → List ℕ
 room n = replicate n 9
@@ -71,7 +71,7 @@ bound-not-met = (refl, refl, refl, refl, refl)
 
 -- A ROW IS COUNTED ONCE, however many modules begin below it: 3×2 with modules at (0, 1) and (2, 1)
 abbrev sideBySide : List ℕ
-sideBySide = recordOf 1 0 (rect 0 1 1 1) ++ recordOf 2 0 (rect 2 1 1 1)
+sideBySide = recordOf 1 0 (rect 0 1 1 1) 0 ++ recordOf 2 0 (rect 2 1 1 1) 0
 
 pub row-counted-once : scannedRows 2 sideBySide ≡ 2
 unfolding caseHolds
@@ -156,10 +156,78 @@ rulesPart = record {
   corners = 5;
 }
 
+-- order 2, "hard blocks that no trigger may use": 4×3 with a block 2×1 set at (1,1); a 2×1 by rule 0 goes to (0,0). A remove and an exchange of the block are 23, an exchange to 0×0 too, for 23
+-- "follows 16", but a stray byte is 12 and a rule over 2 is 13; its id is placed, so that a pin and a set under it are 15; a set and a pin on it, under another id, are 21, and so is a set on the
+-- module; id 263, of the same low byte, comes and goes. The block keeps its slot, and is the one record of kind 1
+abbrev set : ℕ → ℕ → ℕ → ℕ → ℕ → List ℕ
+set id x y w h = eight 6 0 id 0 w h x y
+
+abbrev withHard : Case
+withHard = record {
+  w = 4;
+  h = 3;
+  slots = 3;
+  block = set 7 1 1 2 1 ++ eight 1 0 1 0 2 1 0 0 ++ eight 2 0 7 0 0 0 0 0 ++ eight 4 0 7 0 1 1 0 0 ++ eight 4 0 7 0 0 0 0 0 ++ pin 7 3 2 1 1 ++ set 7 3 2 1 1 ++ set 8 2 1 1 1
+      ++ pin 8 1 1 1 1 ++ set 8 0 0 1 1 ++ eight 2 1 7 0 0 0 0 0 ++ eight 4 3 7 0 1 1 0 0 ++ eight 3 0 7 1 1 1 3 2 ++ eight 2 0 7 1 0 0 0 0;
+  answers = eight 0 6 7 0 1 1 2 1 ++ eight 0 1 1 0 0 0 2 1 ++ eight 23 2 7 0 0 0 0 0 ++ eight 23 4 7 0 0 0 0 0 ++ eight 23 4 7 0 0 0 0 0 ++ eight 15 3 7 0 0 0 0 0 ++ eight 15 6 7 0 0 0 0 0 ++ eight 21 6 8 0 0 0 0 0
+      ++ eight 21 3 8 0 0 0 0 0 ++ eight 21 6 8 0 0 0 0 0 ++ eight 12 2 7 0 0 0 0 0 ++ eight 13 4 7 0 0 0 0 0 ++ eight 0 3 7 1 3 2 1 1 ++ eight 0 2 7 1 3 2 1 1;
+  accepted = 4;
+  weights = o 2 ∷ o 1 ∷ e 1 ∷ e 1 ∷ e 1 ∷ o 2 ∷ o 1 ∷ e 2 ∷ e 2 ∷ e 1 ∷ e 1 ∷ e 3 ∷ [];
+  table = eight 7 0 1 1 2 1 1 0 ++ eight 1 0 0 0 2 1 0 0 ++ free;
+  used = 2;
+  list = rect 2 0 2 1 ∷ rect 0 1 1 2 ∷ rect 0 2 4 1 ∷ rect 3 0 1 3 ∷ [];
+  corners = 3;
+}
+
+-- "a pin's refusals in the same order": of a set 12, 14, 15, 17, 18, 21, each where the later ones apply too or stand next, and 19 once the table of two slots is full, behind 18 and before 21. 0, 5 and 7
+-- are no operations of a run, 11. And 23 just withheld: of an id that is not placed, 16; of the module 3, which is exchanged and removed
+abbrev setRefused : Case
+setRefused = record {
+  w = 3;
+  h = 1;
+  slots = 2;
+  block = set 2 0 0 1 1 ++ eight 6 1 0 0 1 1 1 0 ++ set 0 1 0 0 1 ++ set 2 1 0 0 1 ++ set 4 4 0 0 1 ++ set 4 1 0 1 0 ++ set 4 2 0 2 1 ++ set 4 0 1 1 1 ++ set 4 0 0 1 1
+      ++ eight 0 0 0 0 0 0 0 0 ++ eight 5 0 0 0 3 1 0 0 ++ eight 7 0 0 0 1 1 1 0 ++ eight 2 0 4 0 0 0 0 0 ++ pin 3 1 0 1 1 ++ set 4 2 0 2 1 ++ set 4 0 0 1 1 ++ set 4 2 0 1 1 ++ eight 4 0 3 0 1 1 0 0 ++ eight 2 0 3 0 0 0 0 0;
+  answers = eight 0 6 2 0 0 0 1 1 ++ eight 12 6 0 0 0 0 0 0 ++ eight 14 6 0 0 0 0 0 0 ++ eight 15 6 2 0 0 0 0 0 ++ eight 17 6 4 0 0 0 0 0 ++ eight 17 6 4 0 0 0 0 0 ++ eight 18 6 4 0 0 0 0 0 ++ eight 18 6 4 0 0 0 0 0 ++ eight 21 6 4 0 0 0 0 0
+      ++ eight 11 0 0 0 0 0 0 0 ++ eight 11 5 0 0 0 0 0 0 ++ eight 11 7 0 0 0 0 0 0 ++ eight 16 2 4 0 0 0 0 0 ++ pinned 3 1 0 1 1 ++ eight 18 6 4 0 0 0 0 0 ++ eight 19 6 4 0 0 0 0 0 ++ eight 19 6 4 0 0 0 0 0 ++ eight 0 4 3 0 1 0 1 1 ++ eight 0 2 3 0 1 0 1 1;
+  accepted = 4;
+  weights = o 1 ∷ e 1 ∷ e 1 ∷ [];
+  table = eight 2 0 0 0 1 1 1 0 ++ free;
+  used = 1;
+  list = rect 1 0 2 1 ∷ [];
+  corners = 1;
+}
+
 -- THESE HOLD TOO
-pub examples-hold : all caseHolds (removed ∷ exchanged ∷ wideAndIds ∷ rulesPart ∷ []) ≡ true
+pub examples-hold : all caseHolds (removed ∷ exchanged ∷ wideAndIds ∷ rulesPart ∷ withHard ∷ setRefused ∷ []) ≡ true
 unfolding caseHolds
 examples-hold = refl
+
+-- ---- "A surface stands with kinds 0 and 1 and every other spare byte zero": 1×1, its cell occupied; a free slot is eight zero bytes, so that it has no kind
+
+abbrev full : ℕ → ℕ → ℕ
+full kind spare = check 1 1 (o 1 ∷ []) (eight 1 0 0 0 1 1 kind spare) .code
+
+pub kinds-stand : (full 0 0 ≡ 0) × (full 1 0 ≡ 0) × (full 2 0 ≡ 6) × (full 255 0 ≡ 6) × (full 0 1 ≡ 6) × (full 1 1 ≡ 6)
+unfolding caseHolds
+kinds-stand = (refl, refl, refl, refl, refl, refl)
+
+-- "Blocks count as modules for cells, .. and ids": a block and a module with the same id, or on one cell
+pub hard-as-module :
+    (check 2 1 (o 1 ∷ o 1 ∷ []) (eight 1 0 0 0 1 1 1 0 ++ eight 1 0 1 0 1 1 0 0) .code ≡ 6)
+    × (check 2 1 (o 1 ∷ o 1 ∷ []) (eight 1 0 0 0 1 1 1 0 ++ eight 2 0 1 0 1 1 0 0) .code ≡ 0)
+    × (check 1 1 (o 1 ∷ []) (eight 1 0 0 0 1 1 1 0 ++ eight 2 0 0 0 1 1 0 0) .code ≡ 6)
+unfolding caseHolds
+hard-as-module = (refl, refl, refl)
+
+-- "Clear removes them too"
+pub hard-cleared : clear 1 1 (o 1 ∷ []) (eight 1 0 0 0 1 1 1 0) .table ≡ free
+unfolding caseHolds
+hard-cleared = refl
+
+pub free-has-no-kind : (check 1 1 (e 1 ∷ []) free .code ≡ 0) × (check 1 1 (e 1 ∷ []) (eight 0 0 0 0 0 0 1 0) .code ≡ 6)
+unfolding caseHolds
+free-has-no-kind = (refl, refl)
 
 -- ---- a surface that contradicts itself is refused, and nothing is written: 2×1, a weight of 2 in the top row
 pub fallen-refused : (check 2 1 (e 1 ∷ e 2 ∷ []) free .code ≡ 6) × (list 2 1 (e 1 ∷ e 2 ∷ []) free (7 ∷ []) .room ≡ 7 ∷ [])

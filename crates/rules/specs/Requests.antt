@@ -7,7 +7,7 @@ use lib.Dec.{leb, ltb, eqb}
 use lib.IntN.{ℤ}
 use lib.ListN.{getD}
 use Rattle.rules.specs.Tests.{any, least, between, keep, all}
-use Rattle.rules.specs.Surface.{rect, slots, idOf, rectOf, recordOf, freeRecord, freeSlot, usedSlot, withRecord, occupied, fresh}
+use Rattle.rules.specs.Surface.{rect, slots, idOf, rectOf, isHard, recordOf, freeRecord, freeSlot, usedSlot, withRecord, occupied, fresh}
 use Rattle.rules.specs.Empties.{cellsEmpty, empty, entries, area}
 use Rattle.rules.specs.Judging.{Line, _when_, first}
 use Rattle.rules.specs.declared.Rect.{Rect}
@@ -56,19 +56,23 @@ isPin q = eqb (operation q) 3
 abbrev pub isExchange : List ℕ → Bool
 isExchange q = eqb (operation q) 4
 
--- an operation that there is
+-- order 2: "New operation 6 takes the fields of a pin and sets a block"
+abbrev pub isSet : List ℕ → Bool
+isSet q = eqb (operation q) 6
+
+-- an operation that there is (5 is the program's clear: a run knows it not)
 abbrev pub known : List ℕ → Bool
-known q = between 1 4 (operation q)
+known q = between 1 4 (operation q) || isSet q
 
 -- operations 1 and 4
 abbrev pub byRule : List ℕ → Bool
 byRule q = isPlace q || isExchange q
 
--- operation 3: at the place that it names
+-- operations 3 and 6: at the place that they name
 abbrev pub atPlace : List ℕ → Bool
-atPlace q = isPin q
+atPlace q = isPin q || isSet q
 
--- operations 1 and 3
+-- operations 1, 3 and 6
 abbrev pub makesNew : List ℕ → Bool
 makesNew q = isPlace q || atPlace q
 
@@ -76,7 +80,7 @@ makesNew q = isPlace q || atPlace q
 abbrev pub needsOld : List ℕ → Bool
 needsOld q = isRemove q || isExchange q
 
--- operations 1, 3 and 4
+-- operations 1, 3, 4 and 6
 abbrev pub hasSize : List ℕ → Bool
 hasSize q = byRule q || atPlace q
 
@@ -88,9 +92,13 @@ zeros q =
     (cond (byRule q) (byte6 q ∷ byte7 q ∷ [])
     []))
 
--- "3 pin: byte 6 is x, byte 7 is y"
+-- "3 pin: byte 6 is x, byte 7 is y"; 6 "takes the fields of a pin"
 abbrev pub pinned : List ℕ → Rect
 pinned q = rect (byte6 q) (byte7 q) (wide q) (high q)
+
+-- "0 a module, 1 a block": the kind of what a request puts in
+abbrev pub kindAsked : List ℕ → ℕ
+kindAsked q = cond (isSet q) 1 0
 
 -- ---- ids and slots
 
@@ -160,7 +168,7 @@ abbrev pub anyCellTaken : (ℕ → ℕ → Bool) → Option Rect → Bool
 anyCellTaken occ none = false
 anyCellTaken occ (some r) = not (cellsEmpty occ r)
 
--- ---- the codes, "Given exactly when (lowest first)"
+-- ---- the codes, "Given exactly when (lowest first)"; order 2: "23, remove or exchange of a block, follows 16". The first line that applies is given
 
 -- a request is sound when none of these applies
 unfoldable pub soundLines : List ℕ → List ℕ → List Line
@@ -171,6 +179,7 @@ soundLines t q =
     14 when eqb (idAsked q) 0 ∷
     15 when (makesNew q && idPlaced t (idAsked q)) ∷
     16 when (needsOld q && not (idPlaced t (idAsked q))) ∷
+    23 when (needsOld q && isHard t (slotOf t (idAsked q))) ∷
     17 when (hasSize q && (eqb (wide q) 0 || eqb (high q) 0)) ∷
     []
 
@@ -194,14 +203,14 @@ abbrev pub orNone : Option Rect → Rect
 orNone none = rect 0 0 0 0
 orNone (some r) = r
 
--- an accepted request: "Place and pin use the lowest free slot"; "Exchange .. keeps its slot"
+-- an accepted request: "Place and pin use the lowest free slot", and so does a set; "Exchange .. keeps its slot"
 unfoldable pub acceptedStep : ℕ → ℕ → List ℕ → List ℕ → Step
 acceptedStep W H t q =
     let old = slotOf t (idAsked q) in
     let byRulePlace = orNone (rulePlace (occupied (ground t q)) W H (ruleOf q) (wide q) (high q)) in
     cond (isPlace q) (Done (lowestFree t) byRulePlace)
     (cond (isRemove q) (Done old (rectOf t old))
-    (cond (isPin q) (Done (lowestFree t) (pinned q))
+    (cond (atPlace q) (Done (lowestFree t) (pinned q))
     (cond (isExchange q) (Done old byRulePlace)
     (Refused 11))))
 
@@ -230,9 +239,9 @@ valuesOf (Done i r) = r
 abbrev pub answerOf : List ℕ → Step → List ℕ
 answerOf q d = codeOf d ∷ operation q ∷ idLow q ∷ idHigh q ∷ valuesOf d .x ∷ valuesOf d .y ∷ valuesOf d .w ∷ valuesOf d .h ∷ []
 
--- "A refused request changes neither weights nor table"; an accepted one changes one record: free after a remove, else the new module's ..
+-- "A refused request changes neither weights nor table"; an accepted one changes one record: free after a remove, else the new module's or block's ..
 abbrev pub recordAfter : List ℕ → Rect → List ℕ
-recordAfter q r = cond (isRemove q) freeRecord (recordOf (idLow q) (idHigh q) r)
+recordAfter q r = cond (isRemove q) freeRecord (recordOf (idLow q) (idHigh q) r (kindAsked q))
 
 abbrev pub tableAfter : List ℕ → Step → List ℕ → List ℕ
 tableAfter q (Refused c) t = t

@@ -28,19 +28,31 @@ slots t = length t / 8
 abbrev pub byte : List ℕ → ℕ → ℕ → ℕ
 byte t i k = getD t (8 * i + k) 0
 
--- "Bytes 0 and 1 are the id, low byte first, then x, y, w, h, then two zero bytes."
+-- "Bytes 0 and 1 are the id, low byte first, then x, y, w, h, then two zero bytes"; order 2: "Byte 6 of a table record becomes its kind: 0 a module, 1 a block."
 abbrev pub idOf : List ℕ → ℕ → ℕ
 idOf t i = byte t i 0 + 256 * byte t i 1
 
 abbrev pub rectOf : List ℕ → ℕ → Rect
 rectOf t i = rect (byte t i 2) (byte t i 3) (byte t i 4) (byte t i 5)
 
-abbrev pub spareZero : List ℕ → ℕ → Bool
-spareZero t i = eqb (byte t i 6) 0 && eqb (byte t i 7) 0
+abbrev pub kindOf : List ℕ → ℕ → ℕ
+kindOf t i = byte t i 6
 
--- the same record, written: a module's id as its two bytes, and its rectangle
-abbrev pub recordOf : ℕ → ℕ → Rect → List ℕ
-recordOf low high r = low ∷ high ∷ r .x ∷ r .y ∷ r .w ∷ r .h ∷ 0 ∷ 0 ∷ []
+-- slot i has a block of the fabric: "hard blocks that no trigger may use". (Names say *hard*: a *block* is the requests of a run)
+abbrev pub isHard : List ℕ → ℕ → Bool
+isHard t i = eqb (kindOf t i) 1
+
+-- "A surface stands with kinds 0 and 1 ..
+abbrev pub kindKnown : List ℕ → ℕ → Bool
+kindKnown t i = leb (kindOf t i) 1
+
+-- .. and every other spare byte zero."
+abbrev pub spareZero : List ℕ → ℕ → Bool
+spareZero t i = eqb (byte t i 7) 0
+
+-- the same record, written: its id as two bytes, its rectangle and its kind
+abbrev pub recordOf : ℕ → ℕ → Rect → ℕ → List ℕ
+recordOf low high r kind = low ∷ high ∷ r .x ∷ r .y ∷ r .w ∷ r .h ∷ kind ∷ 0 ∷ []
 
 -- "A free slot is eight zero bytes, so id 0 is no id."
 abbrev pub freeRecord : List ℕ
@@ -56,7 +68,7 @@ usedSlot t i = not (freeSlot t i)
 abbrev pub withRecord : List ℕ → ℕ → List ℕ → List ℕ
 withRecord t i r = sets t (8 * i) r
 
--- ---- cells
+-- ---- cells: "Blocks count as modules for cells, weights, scanned rows and ids" (order 2), so *module* is said of both from here on
 
 -- slot i is used and its module has cell (x, y)
 unfoldable pub holds : List ℕ → ℕ → ℕ → ℕ → Bool
@@ -98,11 +110,11 @@ fresh W H t = tab (W * H) (λ k. weight t (k % W) (k / W))
 
 -- ---- "A surface stands when ..
 
--- .. every slot is free or has an id, w and h of at least 1, x + w ≤ W, y + h ≤ H and zero spare bytes;
+-- .. every slot is free or has an id, w and h of at least 1, x + w ≤ W, y + h ≤ H and zero spare bytes (order 2: kind 0 or 1 and a zero spare byte);
 unfoldable pub soundSlot : ℕ → ℕ → List ℕ → ℕ → Bool
 soundSlot W H t i =
     let r = rectOf t i in
-    leb 1 (idOf t i) && leb 1 (r .w) && leb 1 (r .h) && leb (r .x + r .w) W && leb (r .y + r .h) H && spareZero t i
+    leb 1 (idOf t i) && leb 1 (r .w) && leb 1 (r .h) && leb (r .x + r .w) W && leb (r .y + r .h) H && kindKnown t i && spareZero t i
 
 unfoldable pub slotsSound : ℕ → ℕ → List ℕ → Bool
 slotsSound W H t = every (slots t) (λ i. freeSlot t i || soundSlot W H t i)

@@ -3,7 +3,7 @@ use mathlib.Core.Path.{_≡_, refl, sym, ap, _∙_, subst}
 use mathlib.Core.Bool.{Bool, true, false, not, _&&_, _||_, or-false, true≢false}
 use mathlib.Core.Logic.{⊎-elim}
 use mathlib.Core.List.{List}
-use Prim.Native.Nat.{ℕ, zero, suc, _+_, _≤_, _<_}
+use Prim.Native.Nat.{ℕ, zero, suc, _+_, _*_, _≤_, _<_}
 use native.Mathlib.Nat.{eq-or-lt-of-le}
 use native.Mathlib.Numerals.{add-one}
 use native.Mathlib.Omega.{arith}
@@ -11,9 +11,9 @@ use lib.Dec.{leb, ltb, eqb}
 use lib.ListN.{length, getD, set}
 use lib.Seq.{getD-set-same, getD-set-other}
 use borrow.Author.Count.{below-more}
-use borrow.Author.Tests.{leb-true, leb-false, le-ltb, lt-ltb, eqb-true, eq-eqb, not-true}
+use borrow.Author.Tests.{leb-true, leb-false, le-leb, le-ltb, lt-ltb, eqb-true, eq-eqb, not-true}
 use Rattle.rules.specs.Tests.{any, total, count}
-use Rattle.rules.specs.Surface.{slots, byte, idOf, spareZero, freeSlot, usedSlot, soundSlot, slotsSound, idsDiffer, modulesApart}
+use Rattle.rules.specs.Surface.{slots, byte, idOf, kindOf, kindKnown, spareZero, freeSlot, usedSlot, soundSlot, slotsSound, idsDiffer, modulesApart}
 use Rattle.rules.specs.declared.Rect.{Rect}
 use Rattle.rules.specs.Requests.{hasId}
 use Rattle.rules.proofs.Tests.{and-left, and-right, and-both, fails, not-both, decide, every-yes, any-at, any-yes}
@@ -22,15 +22,12 @@ use Rattle.surface.specs.Slots.{Gathered, tableStands}
 
 -- ---- a sound slot
 
--- the two spare bytes, by their sum
-pub spare-sum : (t : List ℕ) (i : ℕ) → spareZero t i ≡ true → byte t i 6 + byte t i 7 ≡ 0
-spare-sum t i e =
-    let a = eqb-true (byte t i 6) 0 (and-left (eqb (byte t i 6) 0) (eqb (byte t i 7) 0) e) in
-    let b = eqb-true (byte t i 7) 0 (and-right (eqb (byte t i 6) 0) (eqb (byte t i 7) 0) e) in
-    omega arith
+-- the kind and the spare byte, as one number
+pub kind-spare : (t : List ℕ) (i : ℕ) → kindKnown t i ≡ true → spareZero t i ≡ true → kindOf t i + 256 * byte t i 7 ≤ 1
+kind-spare t i k e = omega (arith, leb-true (kindOf t i) 1 k, eqb-true (byte t i 7) 0 e)
 
-pub sum-spare : (t : List ℕ) (i : ℕ) → byte t i 6 + byte t i 7 ≡ 0 → spareZero t i ≡ true
-sum-spare t i e = and-both (eq-eqb (byte t i 6) 0 (omega arith)) (eq-eqb (byte t i 7) 0 (omega arith))
+pub spare-kind : (t : List ℕ) (i : ℕ) → kindOf t i + 256 * byte t i 7 ≤ 1 → (kindKnown t i ≡ true) × (spareZero t i ≡ true)
+spare-kind t i l = (le-leb (kindOf t i) 1 (omega arith), eq-eqb (byte t i 7) 0 (omega arith))
 
 -- a rectangle that was read, side by side with its bytes
 pub read-rect : {r q : Rect} → r ≡ q → (r .x ≡ q .x) × (r .y ≡ q .y) × (r .w ≡ q .w) × (r .h ≡ q .h)

@@ -1,4 +1,4 @@
-// "every slot is free or has an id, w and h of at least 1, x + w ≤ W, y + h ≤ H and zero spare bytes; no two used slots have the same id"
+// "every slot is free or has an id, w and h of at least 1, x + w ≤ W, y + h ≤ H and zero spare bytes" (order 2: "with kinds 0 and 1 and every other spare byte zero"); "no two used slots have the same id"
 ghost use mathlib.Core.Path.{_≡_};
 ghost use Prim.Native.Nat.{_+_, _*_, _/_, _≤_, _<_};
 ghost use lib.Dec.{eqb};
@@ -47,7 +47,7 @@ pub fn sound(t: &[u8], i: usize, id: usize, r: Rect, w: usize, h: usize) -> bool
     if h < r.y + r.h {
         return false;
     }
-    if 0 < table::spare_at(t, i) {
+    if 1 < table::kind_and_spare_at(t, i) {
         return false;
     }
     true

@@ -1,9 +1,9 @@
-// The table's records, read, looked for and written: a slot is eight bytes, the id low byte first, then x, y, w, h and two spare bytes.
+// The table's records, read, looked for and written: a slot is eight bytes, the id low byte first, then x, y, w, h, the kind and a spare byte.
 ghost use mathlib.Core.Path.{_≡_};
 ghost use mathlib.Core.List.{[], _∷_};
 ghost use Prim.Native.Nat.{_+_, _*_, _≤_, _<_};
 ghost use lib.ListN.{length};
-ghost use Rattle.rules.specs.Surface.{byte, slots, idOf, rectOf, freeSlot, recordOf, withRecord};
+ghost use Rattle.rules.specs.Surface.{byte, slots, idOf, rectOf, kindOf, freeSlot, recordOf, withRecord};
 ghost use Rattle.rules.specs.Requests.{hasId, slotOf, lowestFree};
 ghost use Rattle.table.specs.Record.{Bytes};
 use rules::Rect;
@@ -50,12 +50,20 @@ pub fn rect_at(t: &[u8], i: usize) -> Rect
     }
 }
 
-// The sum of bytes 6 and 7: 0 exactly when both are.
-pub fn spare_at(t: &[u8], i: usize) -> usize
+// "Byte 6 of a table record becomes its kind: 0 a module, 1 a block."
+pub fn kind_at(t: &[u8], i: usize) -> usize
     requires { ⌜ 8 * i + 8 ≤ length (now t) ⌝ }
-    ensures { λ r. ⌜ (r ≡ byte (now (t .entry)) i 6 + byte (now (t .entry)) i 7) × (r < 512) ⌝ }
+    ensures { λ r. ⌜ (r ≡ kindOf (now (t .entry)) i) × (r < 256) ⌝ }
 {
-    byte_at(t, i, 6) + byte_at(t, i, 7)
+    byte_at(t, i, 6)
+}
+
+// The kind and the spare byte behind it as one number: at most 1 exactly when the kind is and the other is 0.
+pub fn kind_and_spare_at(t: &[u8], i: usize) -> usize
+    requires { ⌜ 8 * i + 8 ≤ length (now t) ⌝ }
+    ensures { λ r. ⌜ (r ≡ kindOf (now (t .entry)) i + 256 * byte (now (t .entry)) i 7) × (r < 65536) ⌝ }
+{
+    two_at(t, i, 6)
 }
 
 // "A free slot is eight zero bytes": as one number they are 0, so that the machine reads them at once.
@@ -144,15 +152,14 @@ pub fn put_eight(
     a[7] = byte7;
 }
 
-// "Bytes 0 and 1 are the id, low byte first, then x, y, w, h, then two zero bytes."
-pub fn put_record(t: &mut [u8], i: usize, low: u8, high: u8, r: Rect)
+// "Bytes 0 and 1 are the id, low byte first, then x, y, w, h", then the kind and a zero byte.
+pub fn put_record(t: &mut [u8], i: usize, low: u8, high: u8, r: Rect, kind: u8)
     requires { ⌜ 8 * i + 8 ≤ length (now t) ⌝ }
     requires { ⌜ Bytes r ⌝ }
-    ensures { λ _. ⌜ now (t .exit) ≡ withRecord (now (t .entry)) i (recordOf low high r) ⌝ }
+    ensures { λ _. ⌜ now (t .exit) ≡ withRecord (now (t .entry)) i (recordOf low high r kind) ⌝ }
 {
     let at = 8 * i;
     let end = at + 8;
-    let spare = 0;
     put_eight(
         &mut t[at..end],
         low,
@@ -161,7 +168,7 @@ pub fn put_record(t: &mut [u8], i: usize, low: u8, high: u8, r: Rect)
         byte_of(r.y),
         byte_of(r.w),
         byte_of(r.h),
-        spare,
-        spare,
+        kind,
+        0,
     );
 }

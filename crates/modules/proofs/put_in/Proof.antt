@@ -10,7 +10,7 @@ returns c =
     let a = p .args in
     let d = c .before .before .before .before .before in (
       c .before .before .put-record .ensures,
-      put-weights (a .w) (a .h) (a .s .now) (a .t .now) (a .i) (a .low) (a .high) (a .r) (p .pre) (d .add .last .1 .1 .0) (c .before .before .put-record .last .0) (d .add .ensures (a .i)) (c .before .before .put-record .ensures),
+      put-weights (a .w) (a .h) (a .s .now) (a .t .now) (a .i) (a .low) (a .high) (a .r) (a .kind) (p .pre) (d .add .last .1 .1 .0) (c .before .before .put-record .last .0) (d .add .ensures (a .i)) (c .before .before .put-record .ensures),
     )
 
 pub put-in-spec : {M : Type 1} → statement M

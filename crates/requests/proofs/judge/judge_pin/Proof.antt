@@ -3,12 +3,14 @@ use mathlib.Core.Path.{_≡_, refl, sym, ap, _∙_, subst, ap₂}
 use mathlib.Core.Bool.{true, false}
 use Rattle.rules.specs.Surface.{occupied}
 use Rattle.rules.specs.Empties.{cellsEmpty}
-use Rattle.rules.specs.Requests.{pinned}
+use Rattle.rules.specs.Requests.{byRule, pinned}
 use Rattle.rules.specs.declared.Step.the-variants.{Done}
 use Rattle.meaning.specs.Change.{On}
 use Rattle.modules.proofs.Place.{untaken-empty}
 use Rattle.requests.specs.Steps.{past}
-use Rattle.meaning.proofs.Operations.{none-free, one-free, size-some, pin-sized}
+use Rattle.meaning.proofs.Operations.{none-free, one-free, size-some}
+use Rattle.meaning.proofs.Steps.{at-place}
+use Rattle.rules.proofs.Tests.{or-right}
 use Rattle.requests.proofs.StepLaws.{past-on, on-weights, pin-tested}
 use borrow.Author.Needs.{needs}
 use Rattle.requests.proofs.judge.judge_pin.Statement.{statement}
@@ -27,7 +29,7 @@ told c = sym (c .is-past .ensures ∙ ap (past (start c .args .w) (start c .args
 on : (c : tie.Else1) → On (start (c .before) .args .w) (start (c .before) .args .h) (pinned (start (c .before) .args .q .now))
 on c =
     let p = start (c .before) .pre in
-    let z = size-some _ _ (p .1 .1) (pin-sized (start (c .before) .args .q .now) (p .1 .2)) in
+    let z = size-some _ _ (p .1 .1) (or-right (byRule (start (c .before) .args .q .now)) _ (p .1 .2)) in
     past-on _ _ _ (told (c .before) ∙ c .if1 .left) (z .0) (z .1)
 
 -- the test of its cells
@@ -43,12 +45,12 @@ is-past-requires : tie.Need-is-past-requires
 is-past-requires c κs = c .pinned .ensures .1
 
 returns : tie.Need-returns
-returns c = let p = start (c .before) .pre in pin-tested _ _ _ _ (p .1 .1) (p .1 .2) true _ _ (told (c .before) ∙ c .if1 .taken) refl refl
+returns c = let p = start (c .before) .pre in pin-tested _ _ _ _ (p .1 .1) (at-place _ (p .1 .2)) true _ _ (told (c .before) ∙ c .if1 .taken) refl refl
 
 returns-2 : tie.Need-returns-2
 returns-2 c = let k = c .before .before in
     let p = start (k .before) .pre in
-    pin-tested _ _ _ _ (p .1 .1) (p .1 .2) false false _ (told (k .before) ∙ k .if1 .left) (none-free _ _ (c .before .lowest-free .ensures) (c .if2 .taken)) refl
+    pin-tested _ _ _ _ (p .1 .1) (at-place _ (p .1 .2)) false false _ (told (k .before) ∙ k .if1 .left) (none-free _ _ (c .before .lowest-free .ensures) (c .if2 .taken)) refl
 
 none-taken-requires : tie.Need-none-taken-requires
 none-taken-requires c κs = let k = c .before .before in
@@ -60,13 +62,13 @@ returns-3 c = let f = c .before .before .before in
     let k = f .before in
     let p = start (k .before) .pre in
     ap₂ Done (f .lowest-free .ensures) (is (k .before))
-    ∙ pin-tested _ _ _ _ (p .1 .1) (p .1 .2) false true true (told (k .before) ∙ k .if1 .left) (one-free _ _ (f .lowest-free .ensures) (c .before .before .if2 .left)) (tested (c .before) ∙ c .if3 .taken)
+    ∙ pin-tested _ _ _ _ (p .1 .1) (at-place _ (p .1 .2)) false true true (told (k .before) ∙ k .if1 .left) (one-free _ _ (f .lowest-free .ensures) (c .before .before .if2 .left)) (tested (c .before) ∙ c .if3 .taken)
 
 returns-4 : tie.Need-returns-4
 returns-4 c = let f = c .before .before .before in
     let k = f .before in
     let p = start (k .before) .pre in
-    pin-tested _ _ _ _ (p .1 .1) (p .1 .2) false true false (told (k .before) ∙ k .if1 .left) (one-free _ _ (f .lowest-free .ensures) (c .before .before .if2 .left)) (tested (c .before) ∙ c .if3 .left)
+    pin-tested _ _ _ _ (p .1 .1) (at-place _ (p .1 .2)) false true false (told (k .before) ∙ k .if1 .left) (one-free _ _ (f .lowest-free .ensures) (c .before .before .if2 .left)) (tested (c .before) ∙ c .if3 .left)
 
 pub judge-pin-spec : {M : Type 1} → statement M
 judge-pin-spec =

@@ -1,7 +1,9 @@
 -- `requests::serve::change` meets its contract. Assumes nothing.
-use mathlib.Core.Path.{sym, ap, _∙_}
+use mathlib.Core.Path.{sym, ap, _∙_, subst}
 use borrow.Author.Tests.{eq-eqb}
-use Rattle.rules.specs.Surface.{withRecord}
+use Rattle.rules.specs.Surface.{recordOf, withRecord}
+use Rattle.rules.specs.Requests.{idLow, idHigh}
+use Rattle.meaning.specs.Change.{Placing}
 use Rattle.meaning.proofs.Steps.{record-free}
 use Rattle.requests.proofs.Accepted.{record-new}
 use borrow.Author.Needs.{needs}
@@ -17,12 +19,12 @@ returns c = let k = c .before .before .before in
     (k .take-out .ensures .0 ∙ ap (withRecord (a .t .now) (a .i)) (sym (record-free (a .q .now) (a .r) (eq-eqb _ 2 (k .before .before .before .if1 .taken)))), k .take-out .ensures .1)
 
 put-in-requires : tie.Need-put-in-requires
-put-in-requires c κs = c .before .before .before .before .before .before .before .before .pre .1 .placing (c .before .before .before .before .if1 .left)
+put-in-requires c κs = subst (Placing _ _ _ _ _ _ _ _) (sym (c .kind-asked .ensures)) (c .before .before .before .before .before .before .before .before .before .pre .1 .placing (c .before .before .before .before .before .if1 .left))
 
 returns-2 : tie.Need-returns-2
 returns-2 c = let k = c .before .before .before in
-    let a = c .before .before .before .before .before .before .before .before .before .before .before .before .args in
-    (k .put-in .ensures .0 ∙ ap (withRecord (a .t .now) (a .i)) (record-new (a .q .now) (a .r) (k .before .before .before .before .before .if1 .left)), k .put-in .ensures .1)
+    let a = c .before .before .before .before .before .before .before .before .before .before .before .before .before .args in
+    (k .put-in .ensures .0 ∙ ap (withRecord (a .t .now) (a .i)) (ap (recordOf (idLow (a .q .now)) (idHigh (a .q .now)) (a .r)) (k .before .kind-asked .ensures) ∙ record-new (a .q .now) (a .r) (k .before .before .before .before .before .before .if1 .left)), k .put-in .ensures .1)
 
 pub change-spec : {M : Type 1} → statement M
 change-spec =
@@ -35,6 +37,7 @@ change-spec =
     returns
     (λ c. search needs)
     (λ c. search needs)
+    (λ c κs. search needs)
     put-in-requires
     (λ c. search needs)
     (λ c. search needs)

@@ -6,10 +6,10 @@ use Rattle.requests.proofs.sound.id_taken.Statement.{statement}
 use Rattle.requests.proofs.sound.id_taken.Tie as tie
 
 returns : tie.Need-returns
-returns c = c .placed .ensures ∙ sym (and-is _ _ _ (sym (c .before .before .either .ensures) ∙ c .before .if1 .taken) refl)
+returns c = sym (and-is _ _ _ (sym (c .before .makes-new .ensures) ∙ c .if1 .taken) refl)
 
 returns-2 : tie.Need-returns-2
-returns-2 c = sym (and-no _ _ (sym (c .before .either .ensures) ∙ c .if1 .left))
+returns-2 c = sym (and-no _ _ (sym (c .before .makes-new .ensures) ∙ c .if1 .left))
 
 pub id-taken-spec : {M : Type 1} → statement M
-id-taken-spec = tie.close (tie.spec (λ c κs. search needs) (λ c κs. search needs) returns returns-2)
+id-taken-spec = tie.close (tie.spec (λ c κs. search needs) returns returns-2)

@@ -3,7 +3,7 @@ use Prim.Native.Nat.{_+_, _*_, _<_}
 use native.Mathlib.Omega.{arith}
 use borrow.Author.Needs.{needs}
 use Rattle.meaning.proofs.Stands.{told-sound}
-use Rattle.surface.proofs.SlotLaws.{spare-sum, sum-spare, read-rect, unsound}
+use Rattle.surface.proofs.SlotLaws.{kind-spare, spare-kind, read-rect, unsound}
 use Rattle.surface.proofs.slots.sound.Statement.{statement}
 use Rattle.surface.proofs.slots.sound.Tie as tie
 
@@ -40,16 +40,18 @@ returns-5 c = let s = c .before .before .before .before .before .before .before 
 returns-6 : tie.Need-returns-6
 returns-6 c =
     let s = c .before .before .before .before .before .before .before .before .before .before .before .before in
-    sym (unsound (s .args .w) (s .args .h) (s .args .t .now) (s .args .i) (λ d. omega (arith, spare-sum (s .args .t .now) (s .args .i) (d .spare), c .before .spare-at .ensures .0)))
+    sym (unsound (s .args .w) (s .args .h) (s .args .t .now) (s .args .i) (λ d. omega (arith, kind-spare (s .args .t .now) (s .args .i) (d .kind) (d .spare), c .before .kind-and-spare-at .ensures .0)))
 
 returns-7 : tie.Need-returns-7
 returns-7 c =
     let s = c .before .before .before .before .before .before .before .before .before .before .before .before in
     let e = read-rect (s .pre .2) in
+    let k = spare-kind (s .args .t .now) (s .args .i) (omega (arith, c .before .kind-and-spare-at .ensures .0)) in
     sym (told-sound (s .args .w) (s .args .h) (s .args .t .now) (s .args .i) (record {
       id = omega (arith, s .pre .1);
       place = record { wide = omega (arith, e); tall = omega (arith, e); columns = omega (arith, e); lines = omega (arith, e) };
-      spare = sum-spare (s .args .t .now) (s .args .i) (omega (arith, c .before .spare-at .ensures .0));
+      kind = k .0;
+      spare = k .1;
     }))
 
 pub sound-spec : {M : Type 1} → statement M
