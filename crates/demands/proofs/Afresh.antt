@@ -8,7 +8,7 @@ use lib.IntN.{ℤ, pos, negℤ}
 use Rattle.rules.specs.Surface.{Standing, covers, slots, idOf, rectOf, kindOf, freeSlot, holds, occupied, holder, upwards, number, weight, cell}
 use Rattle.rules.proofs.Tests.{and-both, not-both, fails, or-left, or-right, any-at, any-yes}
 use Rattle.meaning.proofs.Splits.{split, by-test, by-same, by-cons}
-use Rattle.meaning.proofs.Weights.{holds-covers, holds-used, holder-low, holder-holds, weight-number, weight-empty, stands-cell}
+use Rattle.meaning.proofs.Weights.{holds-covers, holds-used, holds-both, holder-low, holder-holds, weight-number, weight-empty, stands-cell}
 use Rattle.meaning.specs.Column.{numberAt}
 use Rattle.meaning.proofs.Stands.{apart-told, standing-table}
 use Rattle.demands.specs.History.{Module, moduleAt, taken, remains, historyWeight}
@@ -47,8 +47,7 @@ both-ways a b f g = by-test a (λ e. e ∙ sym (f e)) (λ e. e ∙ sym (fails b 
 
 module _ (h : List Module) (t : List ℕ) (d : Told h t) where
   holds-of : (x y : ℕ) (m : Module) → HasModule t m → covers (m .place) x y ≡ true → holds t x y (m .slot) ≡ true
-  unfolding holds
-  holds-of x y m w e = and-both (ap not (w .used)) (ap (λ r. covers r x y) (w .place) ∙ e)
+  holds-of x y m w e = holds-both t x y (m .slot) (ap not (w .used)) (ap (λ r. covers r x y) (w .place) ∙ e)
 
   -- A CELL IS OCCUPIED BY THE HISTORY'S MODULES EXACTLY WHEN IT IS BY THE TABLE'S
   pub taken-is : (x y : ℕ) → taken h x y ≡ occupied t x y

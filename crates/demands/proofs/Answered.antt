@@ -27,7 +27,7 @@ use Rattle.meaning.proofs.Splits.{by-same}
 use Rattle.meaning.proofs.First.{first-is}
 use Rattle.meaning.proofs.Changes.{id-gone}
 use Rattle.meaning.proofs.Theorems.{pin-step, set-step}
-use Rattle.meaning.proofs.Steps.{refused-code, rules-step, module-kind, change, put-leaves, take-leaves, swap-leaves}
+use Rattle.meaning.proofs.Steps.{refused-code, rules-step, kind-is, module-kind, change, put-leaves, take-leaves, swap-leaves}
 use Rattle.demands.specs.Sound.{Sound, SlotForIt, SoundTo16, asPin}
 use Rattle.demands.specs.History.{moduleAt, codeIn, placeIn}
 use Rattle.demands.specs.Told.{HasModule, Placed, LowestFree, SlotOfId, HardId, HardStays}
@@ -183,7 +183,7 @@ module _ {W H : ℕ} (c : RunCall W H) (e : NotRefused c) (k : ℕ) (l : k < req
     answer-exchange-slot f = elim did [
       | puts n m p ↦ not-both (isExchange q) f (n .noExchange)
       | takes o x p z ↦ not-both (isExchange q) f x
-      | swaps o x p n ↦ (its p, leaves ∙ put-leaves W H s t q i r o ∙ ap₂ (λ j k. withRecord t j (recordOf (idLow q) (idHigh q) r k)) (p .at) (ap {B = ℕ} (λ n. cond (eqb n 6) 1 0) (eqb-true (operation q) 4 x)))
+      | swaps o x p n ↦ (its p, leaves ∙ put-leaves W H s t q i r o ∙ ap₂ (λ j k. withRecord t j (recordOf (idLow q) (idHigh q) r k)) (p .at) (kind-is q false (ap (λ n. eqb n 6) (eqb-true (operation q) 4 x))))
     ]
 
     pub answer-freed-slot : isRemove q ≡ true → SlotOfId t (slotOf t (idAsked q)) (idAsked q) × (then ≡ withRecord t (slotOf t (idAsked q)) freeRecord)
@@ -203,10 +203,10 @@ module _ {W H : ℕ} (c : RunCall W H) (e : NotRefused c) (k : ℕ) (l : k < req
         let a : atPlace q ≡ true = or-right (isPin q) (isSet q) f in
         let p = answer-stands-as .there a in
         let w = answer-new-slot (or-right (isPlace q) (atPlace q) a) in
-        (p, w .0, w .1 ∙ ap₂ (λ r k. withRecord t (lowestFree t) (recordOf (idLow q) (idHigh q) r k)) p (ap {B = ℕ} (λ b. cond b 1 0) f))
+        (p, w .0, w .1 ∙ ap₂ (λ r k. withRecord t (lowestFree t) (recordOf (idLow q) (idHigh q) r k)) p (kind-is q true f))
 
     pub answer-others-stand : isRemove q ≡ false → isSet q ≡ false → Placed then (idAsked q) r 0
-    answer-others-stand f g = subst (Placed then (idAsked q) r) (ap {B = ℕ} (λ b. cond b 1 0) g) (answer-there f)
+    answer-others-stand f g = subst (Placed then (idAsked q) r) (kind-is q false g) (answer-there f)
 
     pub answer-frame : OneFramed W H q r (upTo c k) (upTo c (suc k))
     answer-frame =

@@ -1,12 +1,11 @@
 -- THE FRAME of an accepted request. Assumes nothing.
-use mathlib.Core.Path.{_≡_, refl, sym, ap, _∙_, subst, subst₂, ap₂}
+use mathlib.Core.Path.{_≡_, sym, ap, _∙_, subst, subst₂, ap₂}
 use mathlib.Core.Bool.{Bool, true, false, cond, _||_}
 use mathlib.Core.Logic.{⊎-elim, inl, inr}
 use mathlib.Core.List.{List}
 use Prim.Native.Nat.{ℕ, _+_, _*_, _≤_, _<_}
 use native.Mathlib.Omega.{arith}
 use lib.IntN.{ℤ}
-use lib.ListN.{length}
 use lib.Seq.{length-sets}
 use Rattle.rules.specs.Tests.{eqZ}
 use Rattle.rules.specs.Surface.{slots, rectOf, recordOf, freeRecord, withRecord, cell, fresh, occupied}

@@ -2,25 +2,25 @@
 use mathlib.Core.Path.{_≡_, refl, sym, ap, _∙_, subst}
 use mathlib.Core.Bool.{true, false, not, _&&_, true≢false}
 use mathlib.Core.List.{List}
-use Prim.Native.Nat.{ℕ, zero, suc, _+_, _*_, _≤_, _<_}
-use native.Mathlib.Nat.{eq-or-lt-of-le, le-of-suc-le-suc}
+use Prim.Native.Nat.{ℕ, zero, suc, _≤_, _<_}
+use native.Mathlib.Nat.{eq-or-lt-of-le}
 use mathlib.Core.Logic.{⊎-elim}
 use native.Mathlib.Omega.{arith}
-use borrow.Author.Tests.{eqb-true, eq-eqb, ne-eqb}
+use borrow.Author.Tests.{eq-eqb, ne-eqb}
 use lib.IntN.{ℤ}
-use lib.ListN.{length, List·getD-eq-default}
-use Rattle.rules.specs.Surface.{Standing, slots, covers, byte, rectOf, kindOf, isHard, freeSlot, usedSlot, holds, occupied}
+use lib.ListN.{List·getD-eq-default}
+use Rattle.rules.specs.Surface.{Standing, slots, covers, byte, rectOf, kindOf, isHard, freeSlot, holds, occupied}
 use Rattle.rules.specs.Requests.{recordAfter, stepOf, tableAfter}
-use Rattle.rules.specs.Blocks.{State, withStep, request, started, nextBy, afterBy}
+use Rattle.rules.specs.Blocks.{State, request, nextBy, afterBy}
 use Rattle.rules.specs.declared.Rect.{Rect}
 use Rattle.rules.specs.declared.Step.{Step}
 use Rattle.rules.specs.declared.Step.the-variants.{Refused, Done}
 use Rattle.rules.proofs.Tests.{and-both, not-both, fails, any-yes}
 use Rattle.meaning.specs.Change.{Placing, StepOrRefusal, Stricter, Change}
 use Rattle.meaning.specs.Change.Change.{puts, takes, swaps}
-use Rattle.meaning.proofs.Splits.{by-less, by-same}
+use Rattle.meaning.proofs.Splits.{by-less}
 use Rattle.meaning.proofs.Tables.{free-byte, bytes-free, record-alike, alike-slots, alike-holds}
-use Rattle.meaning.proofs.Weights.{covers-within}
+use Rattle.meaning.proofs.Weights.{covers-within, holds-both}
 use Rattle.meaning.proofs.Stands.{sound-told, slots-told, apart-told, standing-table}
 use Rattle.meaning.proofs.Changes.{slot-fits, empty-at, taken-alike}
 use Rattle.meaning.proofs.Steps.{StateStands, change, accepted-as, record-eight, after-by-stands}
@@ -89,11 +89,6 @@ stays-has t u f d m e w =
 
 -- ---- nothing stands on a block
 
--- the module of a slot has a cell
-pub held : (t : List ℕ) (i x y : ℕ) → freeSlot t i ≡ false → covers (rectOf t i) x y ≡ true → holds t x y i ≡ true
-unfolding holds
-held t i x y f e = and-both (ap not f) e
-
 -- two used slots, in a table that stands, share no cell
 pub slots-apart : {W H : ℕ} {s : List ℤ} {t : List ℕ} → Standing W H s t → (i j : ℕ) → (i ≡ j → ⊥) → freeSlot t i ≡ false → freeSlot t j ≡ false → (x y : ℕ) → covers (rectOf t i) x y ≡ true → covers (rectOf t j) x y ≡ false
 slots-apart {W} {H} {s} {t} d i j ne f g x y e =
@@ -101,7 +96,7 @@ slots-apart {W} {H} {s} {t} d i j ne f g x y e =
     let p = sound-told W H t i (slots-told W H t (u .slotsAre) i (used-low d i f) f) .place in
     let w = covers-within (rectOf t i) x y e in
     fails (covers (rectOf t j) x y) (λ k.
-    not-both (holds t x y i && holds t x y j) (and-both (held t i x y f e) (held t j x y g k))
+    not-both (holds t x y i && holds t x y j) (and-both (holds-both t x y i (ap not f) e) (holds-both t x y j (ap not g) k))
     (apart-told W H t (u .modulesAre) x y (omega (arith, w .right, p .columns)) (omega (arith, w .bottom, p .lines)) i j (used-low d i f) (used-low d j g) ne))
 
 -- what is put in has no cell of a slot that is used
@@ -116,9 +111,9 @@ change-clear W H s t q i r d c j h x y e =
     let f = hard-used t j h in
     let ne : j ≡ i → ⊥ = λ z. not-both (isHard t i) (eq-eqb (kindOf t i) 1 (ap (kindOf t) (sym z) ∙ h)) (written-soft W H s t q i r c .1) in
     elim c [
-      | puts n l p ↦ placed-clear W H s t i _ _ r _ p j x y (used-low d j f) (held t j x y f e)
+      | puts n l p ↦ placed-clear W H s t i _ _ r _ p j x y (used-low d j f) (holds-both t x y j (ap not f) e)
       | takes o z p m ↦ ap (λ v. covers v x y) m ∙ slots-apart d j i ne f (p .taking .used) x y e
       | swaps o z p n ↦
           let a = taken-alike W H s t i (p .taking) in
-          placed-clear W H _ _ i _ _ r _ n j x y (omega (arith, alike-slots a, used-low d j f)) (alike-holds a j ne x y ∙ held t j x y f e)
+          placed-clear W H _ _ i _ _ r _ n j x y (omega (arith, alike-slots a, used-low d j f)) (alike-holds a j ne x y ∙ holds-both t x y j (ap not f) e)
     ]

@@ -9,12 +9,13 @@ use native.Mathlib.Omega.{arith}
 use borrow.Author.Tests.{ltb-true, eqb-true, eq-eqb, not-true}
 use lib.Dec.{ltb, eqb}
 use lib.IntN.{ℤ}
-use Rattle.rules.specs.Tests.{any, all}
+use lib.ListN.{take, drop}
+use Rattle.rules.specs.Tests.{any}
 use Rattle.rules.specs.Surface.{Standing, rect, covers, slots, idOf, rectOf, kindOf, isHard, freeSlot, occupied}
 use Rattle.rules.specs.Empties.{cellsEmpty, empty, Empty}
 use Rattle.rules.specs.Judging.{Line, _when_, first, NoneApplies, FirstThat}
 use Rattle.meaning.specs.Numbers.{above, hasCode, differ}
-use Rattle.rules.specs.Requests.{operation, known, zeros, hasSize, hasId, idPlaced, ruleOf, idAsked, wide, high, byte6, byte7, isPlace, isExchange, byRule, atPlace, makesNew, pinned, slotOf, someFree, ground, position, rulePlace, anyCellTaken, soundLines, placeLines, judging, stepOf, codeOf, needsOld, isRemove}
+use Rattle.rules.specs.Requests.{operation, hasId, idPlaced, ruleOf, idAsked, wide, high, byte6, byte7, isPlace, isExchange, byRule, atPlace, makesNew, pinned, slotOf, someFree, ground, position, rulePlace, anyCellTaken, soundLines, placeLines, judging, stepOf, codeOf, needsOld, isRemove}
 use Rattle.rules.specs.Blocks.{State, withStep}
 use Rattle.rules.specs.declared.Rect.{Rect}
 use Rattle.rules.specs.declared.Step.{Step}
@@ -165,7 +166,7 @@ no-position occ W H w h = (
 
 -- ---- 23, "remove or exchange of a block, follows 16"
 
--- lines none of which applies, of those with a code of at most n: those before them that have a higher one do not matter
+-- where no line of ls ++ ms with a code of at most n applies, and every line of ls has such a code, none of ls applies
 none-to : (n : ℕ) (ls ms : List Line) → below (suc n) ls ≡ true → ((l : Line) → List·Memᴰ l (ls ++ ms) → l .code ≤ n → l .applies ≡ false) → NoneApplies ls
 unfolding below NoneApplies
 none-to n [] ms b h = tt
@@ -173,6 +174,7 @@ none-to n (l ∷ ls) ms b h =
     let c = ltb-true (l .code) (suc n) (and-left (ltb (l .code) (suc n)) (below (suc n) ls) b) in
     (h l (List·Memᴰ·head refl) (omega arith), none-to n ls ms (and-right (ltb (l .code) (suc n)) (below (suc n) ls) b) (λ k m. h k (List·Memᴰ·tail m)))
 
+-- and the other way round, where every code of ms is above n
 to-none : (n : ℕ) (ls ms : List Line) → NoneApplies ls → ((l : Line) → List·Memᴰ l ms → n < l .code) → (l : Line) → List·Memᴰ l (ls ++ ms) → l .code ≤ n → l .applies ≡ false
 unfolding NoneApplies
 to-none n [] ms z h l m c = absurd (omega (arith, h l m))
@@ -203,35 +205,22 @@ module _ (W H : ℕ) (s : List ℤ) (t q : List ℕ) (d : Standing W H s t) wher
   id-hard : HardId t (idAsked q) → isHard t old ≡ true
   id-hard k = eq-eqb (kindOf t old) 1 (ap (kindOf t) (slot-one W H s t d (k .slot) (idAsked q) (k .low) (hard-used t (k .slot) (k .hard)) (k .named)) ∙ k .hard)
 
-  -- 11 to 16, and the lines behind 23
+  -- the lines of 11 to 16; those of 23 and 17 stand behind them
   abbrev six : List Line
-  six =
-      11 when not (known q) ∷
-      12 when not (all (eqb 0) (zeros q)) ∷
-      13 when (byRule q && ltb 2 (ruleOf q)) ∷
-      14 when eqb (idAsked q) 0 ∷
-      15 when (makesNew q && idPlaced t (idAsked q)) ∷
-      16 when (needsOld q && not (idPlaced t (idAsked q))) ∷
-      []
+  six = take 6 (soundLines t q)
 
-  abbrev hardLine : Line
-  hardLine = 23 when (needsOld q && isHard t old)
-
-  abbrev sizeLine : Line
-  sizeLine = 17 when (hasSize q && (eqb (wide q) 0 || eqb (high q) 0))
-
-  behind-16 : (l : Line) → List·Memᴰ l (hardLine ∷ sizeLine ∷ []) → 16 < l .code
+  behind-16 : (l : Line) → List·Memᴰ l (drop 6 (soundLines t q)) → 16 < l .code
+  unfolding soundLines
   behind-16 l m =
       by-cons m (λ e. omega (arith, ap (λ (l : Line). l .code) e)) (λ m. by-cons m (λ e. omega (arith, ap (λ (l : Line). l .code) e)) (λ m. absurd (List·Memᴰ·not-nil m)))
 
   pub hard-exactly : (codeOf (stepOf W H t q) ≡ 23) ↔ ((needsOld q ≡ true) × SoundTo16 t q × HardId t (idAsked q))
   unfolding soundLines
   hard-exactly =
-      let x = exactly (judging W H t q) _ (unfold soundLines placeLines above in refl) (unfold soundLines placeLines hasCode differ in refl) (code-first W H t q) six hardLine (sizeLine ∷ placeLines W H t q) refl in (
-        (λ e.
-            let n = x .0 e in
-            (and-left (needsOld q) (isHard t old) (n .1), to-none 16 six (hardLine ∷ sizeLine ∷ []) (n .0) behind-16, hard-id (and-right (needsOld q) (isHard t old) (n .1)))),
-        (λ k. x .1 (none-to 16 six (hardLine ∷ sizeLine ∷ []) (unfold below in refl) (k .1), and-both (k .0) (id-hard (k .2)))),
+      let x = exactly (judging W H t q) _ (unfold soundLines placeLines above in refl) (unfold soundLines placeLines hasCode differ in refl) (code-first W H t q) six
+      (23 when (needsOld q && isHard t old)) (drop 7 (judging W H t q)) refl in (
+        (λ e. let n = x .0 e in (and-left (needsOld q) (isHard t old) (n .1), to-none 16 six (drop 6 (soundLines t q)) (n .0) behind-16, hard-id (and-right (needsOld q) (isHard t old) (n .1)))),
+        (λ k. x .1 (none-to 16 six (drop 6 (soundLines t q)) (unfold soundLines below in refl) (k .1), and-both (k .0) (id-hard (k .2)))),
       )
 
 -- ---- the surface on which a place is judged

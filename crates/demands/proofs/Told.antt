@@ -23,7 +23,7 @@ use Rattle.meaning.proofs.Order.{ordered-keep}
 use Rattle.meaning.proofs.Tables.{Alike, alike-back, alike-slots, alike-free, alike-id, alike-rect, alike-kind, look-found}
 use Rattle.meaning.proofs.Stands.{sameId, ids-told, standing-table}
 use Rattle.meaning.proofs.Changes.{put-id, put-kind, put-more, taken-alike, taken-less}
-use Rattle.meaning.proofs.Steps.{StateStands, change, accepted-as, refusal-code, put-leaves, take-leaves, swap-leaves}
+use Rattle.meaning.proofs.Steps.{StateStands, kind-is, change, accepted-as, refusal-code, put-leaves, take-leaves, swap-leaves}
 use Rattle.demands.specs.History.{Module, moduleAt, others, unused, leastUnused, slotIn, noted}
 use Rattle.demands.specs.Told.{HasModule, Told}
 
@@ -181,7 +181,7 @@ module _ (W H : ℕ) (q : List ℕ) (a : State) (h : List Module) (z : StateStan
 
   -- the kind of what operation n puts in
   kind-as : (n : ℕ) → operation q ≡ n → kindAsked q ≡ cond (eqb n 6) 1 0
-  kind-as n e = ap {B = ℕ} (λ n. cond (eqb n 6) 1 0) e
+  kind-as n e = kind-is q (eqb n 6) (ap (λ n. eqb n 6) e)
 
   noted-new : (i : ℕ) (r : Rect) → makesNew q ≡ true → noted q (answerOf q (Done i r)) h ≡ moduleAt (leastUnused h) (idAsked q) r (kindAsked q) ∷ h
   noted-new i r e =

@@ -192,15 +192,15 @@ unfolding caseHolds history leastUnused slotIn
 slots-told = refl
 
 -- ---- a block (order 2): one column of four cells. Block 9 is set at row 1, in slot 0; module 1 comes above it, in slot 1, and goes; a remove and an exchange of the block are refused, 23, and
--- note nothing; module 2 is pinned below it, in slot 1, which was freed
+-- note nothing; block 2 is set below it, in slot 1, which was freed
 
 abbrev pub storyHard : Story
-storyHard = record { w = 1; h = 4; slots = 3; block = eight 6 0 9 0 1 1 0 1 ++ pin 1 0 0 1 1 ++ remove 1 ++ remove 9 ++ eight 4 0 9 0 1 2 0 0 ++ pin 2 0 3 1 1 }
+storyHard = record { w = 1; h = 4; slots = 3; block = eight 6 0 9 0 1 1 0 1 ++ pin 1 0 0 1 1 ++ remove 1 ++ remove 9 ++ eight 4 0 9 0 1 2 0 0 ++ eight 6 0 2 0 1 1 0 3 }
 
 abbrev hard9 : Module
 hard9 = moduleAt 0 9 (rect 0 1 1 1) 1
 
-pub hard-told : tellings storyHard ≡ (hard9 ∷ []) ∷ (moduleAt 1 1 (rect 0 0 1 1) 0 ∷ hard9 ∷ []) ∷ (hard9 ∷ []) ∷ (hard9 ∷ []) ∷ (hard9 ∷ []) ∷ (moduleAt 1 2 (rect 0 3 1 1) 0 ∷ hard9 ∷ []) ∷ []
+pub hard-told : tellings storyHard ≡ (hard9 ∷ []) ∷ (moduleAt 1 1 (rect 0 0 1 1) 0 ∷ hard9 ∷ []) ∷ (hard9 ∷ []) ∷ (hard9 ∷ []) ∷ (hard9 ∷ []) ∷ (moduleAt 1 2 (rect 0 3 1 1) 1 ∷ hard9 ∷ []) ∷ []
 unfolding caseHolds history leastUnused slotIn
 hard-told = refl
 

@@ -15,7 +15,7 @@ use Rattle.rules.specs.declared.Rect.{Rect}
 use Rattle.rules.proofs.Tests.{and-both, four-and, not-both, or-left, or-right, fails, every-fails, any-at, any-yes, count-le, count-all, total-le}
 use Rattle.meaning.proofs.Splits.{by-test, by-less}
 use Rattle.meaning.proofs.Rectangles.{cellsEmpty-at, not-larger}
-use Rattle.meaning.proofs.Weights.{upwards-free, upwards-ge, covers-within, Within, holds-covers, holds-used, weight-occupied, weight-empty}
+use Rattle.meaning.proofs.Weights.{upwards-free, upwards-ge, covers-within, Within, holds-covers, holds-used, holds-both, weight-occupied, weight-empty}
 
 -- an occupied cell of a rectangle
 pub record Taken (occ : ℕ → ℕ → Bool) (a : Rect) : Type 0 where
@@ -75,15 +75,12 @@ module _ (t : List ℕ) (W H : ℕ) (a : Rect) (m : Maximal (occupied t) W H a) 
       let y = a .y + a .h - 1 in
       let v = cover r (k .x) y (c .left) (c .right) (omega arith) (omega (arith, c .bottom, m .isEmpty .tall)) in
       let free = m .isEmpty .free (k .x) y (k .within .left) (k .within .right) (omega (arith, m .isEmpty .tall)) (omega (arith, m .isEmpty .tall)) in
-      not-both (occ (k .x) y) (any-yes (slots t) (holds t (k .x) y) i (w .1) (held i (k .x) y u v)) free)
+      not-both (occ (k .x) y) (any-yes (slots t) (holds t (k .x) y) i (w .1) (holds-both t (k .x) y i u v)) free)
       (λ p. omega (arith, c .top)) in
       (i, w .1, and-both u (eq-eqb _ _ top))
     where
       cover : (r : Rect) (x y : ℕ) → r .x ≤ x → x < r .x + r .w → r .y ≤ y → y < r .y + r .h → covers r x y ≡ true
       cover r x y p q u v = unfold covers in four-and (le-leb _ _ p) (lt-ltb _ _ q) (le-leb _ _ u) (lt-ltb _ _ v)
-
-      held : (i x y : ℕ) → usedSlot t i ≡ true → covers (rectOf t i) x y ≡ true → holds t x y i ≡ true
-      held i x y u v = unfold holds in and-both u v
 
   -- EVERY ENTRY'S BOTTOM ROW IS SCANNED
   pub bottom-scanned : scanned H t (a .y + a .h - 1) ≡ true

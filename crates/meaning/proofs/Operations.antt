@@ -1,4 +1,4 @@
--- WHAT A REQUEST OF EACH OPERATION COMES TO: which of 11 to 22 can apply to operation n is computed from n. Assumes nothing.
+-- WHAT A REQUEST OF EACH OPERATION COMES TO: which of 11 to 23 can apply to operation n is computed from n. Assumes nothing.
 use mathlib.Core.Path.{_≡_, refl, sym, ap, ap₂, _∙_, subst}
 use mathlib.Core.Bool.{true, false, not, _&&_, _||_, false≢true}
 use mathlib.Core.List.{List, [], _∷_, _++_}
@@ -47,7 +47,7 @@ module _ (q : List ℕ) where
   pub exchange-old : operation q ≡ 4 → needsOld q ≡ true
   exchange-old e = or-right (isRemove q) (isExchange q) (is 4 e 4)
 
--- ---- what the lines of 11 to 17 tell where none of them applies
+-- ---- what the lines of 11 to 17 and 23 tell where none of them applies
 
 module _ (t q : List ℕ) (e : first (soundLines t q) ≡ 0) where
   pub rule-le : byRule q ≡ true → ruleOf q ≤ 2
@@ -56,7 +56,7 @@ module _ (t q : List ℕ) (e : first (soundLines t q) ≡ 0) where
   pub size-some : hasSize q ≡ true → (1 ≤ wide q) × (1 ≤ high q)
   size-some = sizes t q (asking t q e)
 
-  -- the last operation of four
+  -- what is none of 1, 2 and 4 is 3 or 6
   pub last-op : (operation q ≡ 1 → ⊥) → (operation q ≡ 2 → ⊥) → (operation q ≡ 4 → ⊥) → AtPlace q
   last-op a b c = go (asked q (asking t q e .op))
     where
@@ -94,7 +94,7 @@ module _ (W H : ℕ) (t q : List ℕ) where
       22 when ((eqb n 1 || eqb n 4) && anyCellTaken (occupied g) (rulePlace (occupied g) W H (ruleOf q) (wide q) (high q))) ∷
       []
 
-  -- what operation n comes to on the ground g, once 11 to 17 are out of the way
+  -- what operation n comes to on the ground g, once 11 to 17 and 23 are out of the way
   abbrev pub judgedFor : List ℕ → ℕ → Step
   judgedFor g n = judgedTo (first (placeFor g n)) (stepOn W H t q g n)
 

@@ -1,4 +1,4 @@
--- WHAT A REQUEST COMES TO on a surface that stands, case by case: refused, placed, removed, pinned, exchanged. Assumes nothing.
+-- WHAT A REQUEST COMES TO on a surface that stands, case by case: refused, placed, removed, put where it says (a pin, a set), exchanged. Assumes nothing.
 use mathlib.Core.Path.{_≡_, refl, sym, ap, _∙_, subst, subst₂}
 use mathlib.Core.Bool.{Bool, true, false, not, cond, _&&_, _||_, false≢true}
 use mathlib.Core.List.{List}
@@ -199,7 +199,11 @@ pub data Came (W H : ℕ) (s : List ℤ) (t q : List ℕ) : Type 0 where
   exchanged : (r : Rect) → operation q ≡ 4 → stepOf W H t q ≡ Done (slotOf t (idAsked q)) r → rulePlace (occupied (ground t q)) W H (ruleOf q) (wide q) (high q) ≡ some r →
       OldModule W H s t q (slotOf t (idAsked q)) → On W H r → cellsEmpty (occupied (without t q)) r ≡ true → Came W H s t q
 
--- what a request puts in is a module or a block
+-- the kind of what a request puts in
+pub kind-is : (q : List ℕ) (b : Bool) → isSet q ≡ b → kindAsked q ≡ cond b 1 0
+kind-is q b e = ap {B = ℕ} (λ b. cond b 1 0) e
+
+-- it is a module or a block
 pub kind-known : (q : List ℕ) → kindAsked q ≤ 1
 kind-known q = split (λ k. k ≤ 1) (isSet q) (λ e. omega arith) (λ e. omega arith)
 
@@ -286,7 +290,7 @@ came W H s t q d =
 
 -- ==== WHAT AN ACCEPTED REQUEST DOES TO THE TABLE
 
--- an operation that makes a module
+-- an operation that makes a module or a block
 newcomer-place : (q : List ℕ) → operation q ≡ 1 → Newcomer q
 newcomer-place q e = record { makes = ap (λ n. eqb n 1 || (eqb n 3 || eqb n 6)) e; noRemove = ap (λ n. eqb n 2) e; noExchange = ap (λ n. eqb n 4) e }
 

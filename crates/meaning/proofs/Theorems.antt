@@ -138,7 +138,7 @@ given-exactly = L.exactly
 pub done-exactly : (ls : List Line) (c : ℕ) → above 0 ls ≡ true → FirstThat ls c → (c ≡ 0) ↔ NoneApplies ls
 done-exactly = L.done-exactly
 
--- ---- "The lowest code that applies is given", "lowest first": where the numbers rise from line to line, no line that applies has a lower code
+-- ---- "The lowest code that applies is given": where the numbers rise from line to line, no line that applies has a lower code
 
 pub lowest-given : (ls : List Line) (c : ℕ) → rising ls ≡ true → FirstThat ls c → (l : Line) → List·Memᴰ l ls → l .applies ≡ true → c ≤ l .code
 lowest-given = L.lowest

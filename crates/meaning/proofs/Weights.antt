@@ -17,7 +17,7 @@ use Rattle.rules.specs.Surface.{covers, slots, rectOf, usedSlot, holds, occupie
 use Rattle.rules.specs.declared.Rect.{Rect}
 use Rattle.meaning.specs.Column.{numberAt}
 use Rattle.meaning.proofs.Splits.{split, by-test, by-less, by-same}
-use Rattle.rules.proofs.Tests.{and-left, and-right, and-four, any-at, least-is, every-at, every-yes, eqZ-true, eqZ-same, length-tab, getD-tab}
+use Rattle.rules.proofs.Tests.{and-left, and-right, and-both, and-four, any-at, least-is, every-at, every-yes, eqZ-true, eqZ-same, length-tab, getD-tab}
 
 -- ---- the run of empty cells that ends in cell (x, y)
 
@@ -85,6 +85,10 @@ module _ (t : List ℕ) (x y : ℕ) where
   pub holds-used : (i : ℕ) → holds t x y i ≡ true → usedSlot t i ≡ true
   unfolding holds
   holds-used i e = and-left (usedSlot t i) _ e
+
+  pub holds-both : (i : ℕ) → usedSlot t i ≡ true → covers (rectOf t i) x y ≡ true → holds t x y i ≡ true
+  unfolding holds
+  holds-both i u e = and-both u e
 
   -- the holder of an occupied cell has it
   pub holder-low : occupied t x y ≡ true → holder t x y < slots t

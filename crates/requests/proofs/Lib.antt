@@ -1,4 +1,4 @@
--- Laws on plain values. `Lines`: bytes that must be zero, by their sum. `StepLaws`: what each operation comes to. `Accepted`: what an accepted
+-- Laws on plain values. `Lines`: bytes that must be zero, by their sum, and the lines of 11 to 17 and 23 in two parts. `StepLaws`: what each operation comes to. `Accepted`: what an accepted
 -- request tells, and what serving leaves. `Turns`: the requests of a block in turn.
 -- Laws for walks by hand. `Reading`: a reader taken apart and put together. `Lent`: the three buffers that requests
 -- are served on, lent again for a call. `Gone`: how far the run of a block has come.

@@ -14,7 +14,7 @@ use Rattle.rules.specs.Judging.{first}
 use Rattle.meaning.specs.Numbers.{above}
 use Rattle.meaning.proofs.First.{first-stop, first-over}
 use Rattle.meaning.proofs.Tables.{slot-placed}
-use Rattle.requests.specs.Steps.{stray, formLines, idLines, Passes}
+use Rattle.requests.specs.Steps.{stray, formLines, idLines}
 
 -- ---- Bools
 

@@ -40,7 +40,7 @@ formLines q =
     14 when eqb (idAsked q) 0 ∷
     []
 
--- .. and those of 15, 16, 23 and 17 of the slot that has its id too: i is that slot, or the number of slots where none has
+-- .. and those of 15, 16 and 23 of the slot that has its id too; 17 stands behind them. i is that slot, or the number of slots where none has
 abbrev pub idLines : List ℕ → List ℕ → ℕ → List Line
 idLines t q i =
     15 when (makesNew q && ltb i (slots t)) ∷

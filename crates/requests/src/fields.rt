@@ -33,7 +33,7 @@ pub fn id_asked(q: &[u8]) -> usize
     byte(q, 2) + 256 * byte(q, 3)
 }
 
-// "3 pin: byte 6 is x, byte 7 is y"
+// "3 pin: byte 6 is x, byte 7 is y"; 6 "takes the fields of a pin".
 pub fn pinned(q: &[u8]) -> Rect
     requires { ⌜ length (now q) ≡ 8 ⌝ }
     ensures { λ r. ⌜ (r ≡ pinnedAt (now (q .entry))) × Bytes r ⌝ }

@@ -1,9 +1,9 @@
 // What a request comes to. Codes 18 to 22 are judged on the surface: for an exchange on the surface without the old module.
 ghost use mathlib.Core.Path.{_≡_};
+ghost use mathlib.Core.Bool.{true};
 ghost use Prim.Native.Nat.{_+_, _*_, _≤_, _<_};
 ghost use lib.ListN.{length};
 ghost use Rattle.rules.specs.Surface.{Standing, occupied};
-ghost use mathlib.Core.Bool.{true};
 ghost use Rattle.rules.specs.Requests.{operation, ruleOf, idAsked, wide, high, atPlace, slotOf, rulePlace, stepOf};
 ghost use Rattle.table.specs.Record.{Bytes};
 ghost use Rattle.requests.specs.Steps.{past, ruleStep, Passes, Judged};
@@ -99,6 +99,7 @@ fn judge_exchange(w: usize, h: usize, s: &mut [i16], t: &mut [u8], q: &[u8], i: 
     modules::take_out(w, h, s, t, i);
     let d = by_rule(w, h, s, t, q, i);
     let Step::Done(_, _) = d else {
+        // of kind 0: a block was refused before, 23
         modules::put_in(w, h, s, t, i, low, high, old, 0);
         return d;
     };

@@ -1,7 +1,7 @@
-// Codes 11 to 17 and 23: a test for each line of the table, and the line's code. First the lines of the request's bytes alone, 11 to 14; then those of the
-// slot that has its id, which is looked for once, between the two.
+// Codes 11 to 17 and 23: a test for each line of the table, and the line's code. First the lines of the request's bytes alone, 11 to 14; then 15, 16, 23 and
+// 17. The slot of its id is looked for once, between the two.
 ghost use mathlib.Core.Path.{_≡_};
-ghost use mathlib.Core.Bool.{Bool, true, not, _&&_, _||_};
+ghost use mathlib.Core.Bool.{true, not, _&&_, _||_};
 ghost use Prim.Native.Nat.{_+_, _*_, _<_};
 ghost use lib.Dec.{ltb, eqb};
 ghost use lib.ListN.{length};
@@ -60,7 +60,7 @@ fn has_size(q: &[u8]) -> bool
     either(q, 3, 6)
 }
 
-// 12: a byte that must be zero is not: "remove: rule, w and h are zero"; "pin: .. rule is zero"; "Elsewhere bytes 6 and 7 are zero."
+// 12: a byte that must be zero is not: "remove: rule, w and h are zero"; "pin: .. rule is zero", and a set takes its fields; "Elsewhere bytes 6 and 7 are zero."
 fn stray(q: &[u8]) -> bool
     requires { ⌜ length (now q) ≡ 8 ⌝ }
     ensures { λ r. ⌜ r ≡ strayIn (now (q .entry)) ⌝ }

@@ -9,7 +9,7 @@ pub struct Rect {
 }
 
 // What a request comes to: refused, with its code; or done, with the slot whose record it changes and the rectangle that its answer names: of the
-// module that stands there now (place, pin, exchange) or of the one that is gone (remove).
+// module or block that stands there now (place, pin, set, exchange) or of the module that is gone (remove).
 pub enum Step {
     Refused(u8),
     Done(usize, Rect),

@@ -83,7 +83,7 @@ put-in-requires : tie.Need-put-in-requires
 put-in-requires c κs = let g = gone (c .before .before .before .before) in
     let f = found g in
     let t = start f .args .t .now in
-    back-placing _ _ _ _ _ (taking f) _ _ _ 0 (omega arith) (ap (λ l. l + 256 * byte t (start f .args .i) 1) (first-byte f)) (g .before .before .before .rect-at .ensures) _ _
+    back-placing _ _ _ _ _ (taking f) _ _ _ _ (omega arith) (ap (λ l. l + 256 * byte t (start f .args .i) 1) (first-byte f)) (g .before .before .before .rect-at .ensures) _ _
     (g .take-out .ensures .0) (g .take-out .ensures .1)
 
 returns : tie.Need-returns
@@ -92,7 +92,7 @@ returns c = let p = c .before .before .before in
     let k = m .before .before in
     let g = gone k in
     let f = found g in
-    let b = back-left _ _ _ _ _ (taking f) _ _ _ 0 (first-byte f) refl (g .before .before .before .rect-at .ensures) (sym (module-kind _ _ _ _ _ _ (old f))) _ (g .take-out .ensures .0) _ _ (p .put-in .ensures .0) (p .put-in .ensures .1) in
+    let b = back-left _ _ _ _ _ (taking f) _ _ _ _ (first-byte f) refl (g .before .before .before .rect-at .ensures) (sym (module-kind _ _ _ _ _ _ (old f))) _ (g .take-out .ensures .0) _ _ (p .put-in .ensures .0) (p .put-in .ensures .1) in
     judged-by _ _ _ _ _ _ (step k) _ _ _ (m .enum-told2 .given .1) (b .1) (b .0)
 
 returns-2 : tie.Need-returns-2

@@ -5,7 +5,6 @@ use Rattle.rules.specs.declared.Step.the-variants.{Done}
 use Rattle.meaning.proofs.Changes.{slot-fits}
 use Rattle.meaning.proofs.Operations.{remove-old, old-in}
 use Rattle.requests.proofs.StepLaws.{remove-step}
-use borrow.Author.Needs.{needs}
 use Rattle.requests.proofs.judge.judge_remove.Statement.{statement}
 use Rattle.requests.proofs.judge.judge_remove.Tie as tie
 

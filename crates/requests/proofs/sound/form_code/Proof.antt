@@ -1,9 +1,8 @@
 -- `requests::sound::form_code` meets its contract. Assumes nothing.
 use mathlib.Core.Path.{_≡_, sym, _∙_}
-use mathlib.Core.List.{List}
 use Prim.Native.Nat.{ℕ}
 use lib.ListN.{drop}
-use Rattle.rules.specs.Judging.{Line, first}
+use Rattle.rules.specs.Judging.{first}
 use Rattle.requests.specs.Steps.{formLines}
 use Rattle.meaning.proofs.First.{first-here, first-past, first-end}
 use borrow.Author.Needs.{needs}

@@ -1,10 +1,9 @@
 -- `requests::sound::id_code` meets its contract. Assumes nothing.
 use mathlib.Core.Path.{_≡_, sym, _∙_}
-use mathlib.Core.List.{List}
 use Prim.Native.Nat.{ℕ}
 use lib.ListN.{drop}
 use borrow.Author.Tests.{ltb-true, not-false}
-use Rattle.rules.specs.Judging.{Line, first}
+use Rattle.rules.specs.Judging.{first}
 use Rattle.requests.specs.Steps.{idLines}
 use Rattle.meaning.proofs.First.{first-here, first-past, first-end}
 use Rattle.meaning.proofs.Steps.{then-false}

@@ -1,5 +1,5 @@
 -- `requests::sound::makes_new` meets its contract. Assumes nothing.
-use mathlib.Core.Path.{sym, _∙_}
+use mathlib.Core.Path.{sym}
 use borrow.Author.Tests.{eq-eqb, ne-eqb}
 use Rattle.requests.proofs.Lines.{or-is}
 use Rattle.rules.proofs.Tests.{or-left}
