@@ -113,7 +113,7 @@ done
 seed=0
 while [ "$seed" -lt 30 ]; do
     seed=$((seed + 1))
-    for kind in random sound dense sparse exchange full garbage cut thin checker; do
+    for kind in random sound dense sparse exchange full garbage cut thin checker hard; do
         "$work/generate" stream $kind $seed $((seed * 20)) >"$work/in" || fail "generate $kind $seed"
         draws "$kind $seed"
     done
