@@ -1,5 +1,5 @@
--- THE HISTORY: "the modules that the history of requests says are placed"; blocks "in demand 3 belong to the history" (order 2), each with its kind. It is worked out from requests and answers alone, as bytes; no table and no
--- weights. q is the bytes of all requests, a those of all answers, one behind the other.
+-- THE HISTORY: "the modules that the history of requests says are placed"; blocks "in demand 3 belong to the history" (order 2), each with its kind. It is
+-- worked out from requests and answers alone, as bytes; no table and no weights. q is the bytes of all requests, a those of all answers, one behind the other.
 use mathlib.Core.Bool.{Bool, false, not, cond, _||_}
 use mathlib.Core.List.{List, [], _∷_}
 use Prim.Native.Nat.{ℕ, zero, suc}
