@@ -223,12 +223,21 @@ static void stream_random(void)
     }
 }
 
+/* The next surface, while there is room in the stream: cleared, and nothing asked
+ * for on it yet. */
+static int open_surface(unsigned least, unsigned most)
+{
+    if (!open_stream())
+        return 0;
+    clear_between(least, most);
+    forget_asked();
+    return 1;
+}
+
 static void stream_dense(void)
 {
     before_the_clear();
-    while (open_stream()) {
-        clear_between(6, 32);
-        forget_asked();
+    while (open_surface(6, 32)) {
         unsigned limit = from_to(1, 5);
         for (unsigned n = side_w * side_h; n > 0 && open_stream(); n--)
             put_load(300, limit, limit, 15);
@@ -238,9 +247,7 @@ static void stream_dense(void)
 static void stream_sparse(void)
 {
     before_the_clear();
-    while (open_stream()) {
-        clear_between(20, 64);
-        forget_asked();
+    while (open_surface(20, 64)) {
         for (unsigned n = from_to(20, 80); n > 0 && open_stream(); n--)
             put_load(6, 8, 8, 60);
     }
@@ -285,9 +292,7 @@ static void exchange_history(unsigned ids)
 static void stream_exchange(void)
 {
     before_the_clear();
-    while (open_stream()) {
-        clear_between(1, 16);
-        forget_asked();
+    while (open_surface(1, 16)) {
         for (unsigned n = from_to(3, 12); n > 0 && open_stream(); n--)
             exchange_history(4);
     }
@@ -458,9 +463,7 @@ static void at_hard(unsigned id)
 static void stream_hard(void)
 {
     before_the_clear();
-    while (open_stream()) {
-        clear_between(2, 24);
-        forget_asked();
+    while (open_surface(2, 24)) {
         unsigned hards = from_to(1, 8);
         for (unsigned id = 1; id <= hards; id++) {
             unsigned w = side(side_w / 2), h = side(side_h / 2);

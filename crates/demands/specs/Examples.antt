@@ -204,14 +204,10 @@ pub hard-told : tellings storyHard ≡ (hard9 ∷ []) ∷ (moduleAt 1 1 (rect 0 
 unfolding caseHolds history leastUnused slotIn
 hard-told = refl
 
-pub hard-afresh : reckonings storyHard
-    ≡ (e 1 ∷ o 1 ∷ e 1 ∷ e 2 ∷ [])
-    ∷ (o 1 ∷ o 1 ∷ e 1 ∷ e 2 ∷ [])
-    ∷ (e 1 ∷ o 1 ∷ e 1 ∷ e 2 ∷ [])
-    ∷ (e 1 ∷ o 1 ∷ e 1 ∷ e 2 ∷ [])
-    ∷ (e 1 ∷ o 1 ∷ e 1 ∷ e 2 ∷ [])
-    ∷ (e 1 ∷ o 1 ∷ e 1 ∷ o 1 ∷ [])
-    ∷ []
+abbrev alone9 : List ℤ
+alone9 = e 1 ∷ o 1 ∷ e 1 ∷ e 2 ∷ []
+
+pub hard-afresh : reckonings storyHard ≡ alone9 ∷ (o 1 ∷ o 1 ∷ e 1 ∷ e 2 ∷ []) ∷ alone9 ∷ alone9 ∷ alone9 ∷ (e 1 ∷ o 1 ∷ e 1 ∷ o 1 ∷ []) ∷ []
 unfolding caseHolds history leastUnused slotIn taken remains historyWeight
 hard-afresh = refl
 
