@@ -6,8 +6,9 @@
  *   bench times            for each row the least of many times, freelist to C
  *   bench compare SEED N   N rounds of drawn surfaces and blocks, both compared
  *
- * Exit status 1 when results or bytes differ, or compare met no hard block. A block
- * is one of requests; a hard block is "a block" of the fabric, kind 1. */
+ * Exit status 1 when results or bytes differ, or compare met no hard block, no
+ * accepted exchange or none that the old module alone barred. A block is one of
+ * requests; a hard block is "a block" of the fabric, kind 1. */
 #define _POSIX_C_SOURCE 199309L
 #include "plain.h"
 #include "../include/freelist.h"
@@ -349,18 +350,22 @@ static void add_block_of(const char *name, const struct lent *surface, unsigned 
     add_row(name, 1, 1);
 }
 
+/* An exchange has the rule and size of one of the places. Its id is that of the last
+ * module, so that the search for it, too, goes through all of them. */
 static void add_small_blocks(unsigned side)
 {
     numbers_from(side + 50);
     begin(side, side);
     occupy(50);
     const struct lent *l = painted();
-    unsigned x = 0, y = side / 2;
+    unsigned x = 0, y = side / 2, last = laid_modules();
     while (is_laid(x, y))
         x++;
     add_block_of("run, empty block", l, 0, 0);
     add_block_of("run, 1 place 2×2, rule 1", l, 1, request(1, 1, 999, 2, 2, 0, 0));
     add_block_of("run, 1 place refused (20)", l, 1, request(1, 0, 999, side / 2, side / 2, 0, 0));
+    add_block_of("run, 1 exchange 2×2", l, 1, request(4, 1, last, 2, 2, 0, 0));
+    add_block_of("run, 1 exchange refused (20)", l, 1, request(4, 0, last, side / 2, side / 2, 0, 0));
     add_block_of("run, 1 remove", l, 1, request(2, 0, 1, 0, 0, 0, 0));
     add_block_of("run, 1 pin 1×1", l, 1, request(3, 0, 999, 1, 1, x, y));
     add_block_of("run, 1 set 1×1", l, 1, request(6, 0, 999, 1, 1, x, y));
@@ -543,7 +548,9 @@ static int times(void)
 
 /* ---- compare ----------------------------------------------------------------------------- */
 
-static unsigned long compared, sets, kept; /* operation 6 accepted, 23 answered */
+static unsigned long compared;
+static unsigned long sets, kept;        /* operation 6 accepted, 23 answered */
+static unsigned long exchanged, barred; /* operation 4 accepted; refused for the old module alone */
 
 static void compare_call(struct lent *l, unsigned call)
 {
@@ -587,12 +594,45 @@ static uint64_t some_request(const struct lent *l)
     return request(op, rule, id, w, h, x, y);
 }
 
-/* The answers of the last run, so that draws which miss hard blocks are seen. */
-static void count_hard(void)
+/* An exchange in two: the old module removed, and a place of the new size. */
+static uint64_t remove_for(uint64_t q) { return request(2, 0, q >> 16 & 0xffff, 0, 0, 0, 0); }
+static uint64_t place_for(uint64_t q) { return q - 4 + 1; }
+
+/* Behind an exchange, now and then, the same asked for in two. */
+static void draw_requests(struct lent *l)
 {
+    uint64_t q[40] = { 0 };
+    unsigned n = from_to(0, 40);
+    for (unsigned i = 0; i < n; i++) {
+        q[i] = some_request(l);
+        if ((q[i] & 255) == 4 && i + 2 < n && one_in(2)) {
+            q[i + 1] = remove_for(q[i]);
+            q[i + 2] = place_for(q[i]);
+            i += 2;
+        }
+    }
+    memcpy(l->requests, q, sizeof q);
+    l->requests_len = 8 * n;
+}
+
+/* An exchange refused with 20, though what it asks for has a position once the old
+ * module is removed: "judged with the old module in its place". */
+static int is_barred(const uint8_t *q, const uint8_t *a)
+{
+    return q[0] == 4 && a[0] == 20 && q[8] == 2 && a[8] == 0 && memcmp(q + 2, q + 10, 2) == 0
+        && q[16] == 1 && a[16] == 0 && memcmp(q + 1, q + 17, 5) == 0;
+}
+
+/* The answers of the last run, so that draws which miss hard blocks or exchanges
+ * are seen. */
+static void count_seen(void)
+{
+    const uint8_t *q = of_plain.requests, *a = of_plain.answers;
     for (unsigned i = 0; i < of_plain.requests_len; i += 8) {
-        sets += of_plain.answers[i] == 0 && of_plain.answers[i + 1] == 6;
-        kept += of_plain.answers[i] == 23;
+        sets += a[i] == 0 && a[i + 1] == 6;
+        kept += a[i] == 23;
+        exchanged += a[i] == 0 && a[i + 1] == 4;
+        barred += i + 16 < of_plain.requests_len && is_barred(q + i, a + i);
     }
 }
 
@@ -614,13 +654,9 @@ static void compare_surface(void)
     compare_call(&l, LIST);
     l.room_len = below(40) * 4;
     compare_call(&l, LIST);
-    l.requests_len = 8 * from_to(0, 40);
-    for (unsigned i = 0; i < l.requests_len; i += 8) {
-        uint64_t q = some_request(&l);
-        memcpy(l.requests + i, &q, 8);
-    }
+    draw_requests(&l);
     compare_call(&l, RUN);
-    count_hard();
+    count_seen();
     compare_call(&l, CLEAR);
 }
 
@@ -637,8 +673,9 @@ static int compare(uint64_t seed, unsigned long n)
             compare_surface();
         }
     }
-    printf("bench: %lu calls compared, %lu differ; hard blocks set: %lu, code 23: %lu\n", compared, differ, sets, kept);
-    return differ != 0 || sets == 0 || kept == 0;
+    printf("bench: %lu calls compared, %lu differ; hard blocks set: %lu, code 23: %lu; exchanged: %lu, refused for the old module alone: %lu\n",
+           compared, differ, sets, kept, exchanged, barred);
+    return differ != 0 || sets == 0 || kept == 0 || exchanged == 0 || barred == 0;
 }
 
 int main(int argc, char **argv)

@@ -513,18 +513,16 @@ static unsigned pin(struct surface *s, unsigned slot, struct request q, struct m
     return 0;
 }
 
-/* "judged on the surface without the old module and keeps its slot; refused,
- * the old one stays" */
+/* "judged with the old module in its place, and the old one goes when the new
+ * one stands"; it keeps its slot */
 static unsigned exchange(struct surface *s, unsigned slot, struct request q, struct module *m)
 {
     struct module old = module_of(slot_at(s, slot));
-    lift(s, old);
-    if (!choose(s, q.rule, q.w, q.h, m)) {
-        lay(s, old);
+    if (!choose(s, q.rule, q.w, q.h, m))
         return 20;
-    }
     lay(s, *m);
     put64(s->table + RECORD * slot, slot_of(q.id, *m, MODULE));
+    lift(s, old);
     return 0;
 }
 

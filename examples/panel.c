@@ -74,6 +74,7 @@ int main(void)
     static const uint8_t arm_can[8] = {1, 2, 4, 0, 6, 2, 0, 0};     /* id 4, 6x2, rule 2 */
     static const uint8_t arm_lin[8] = {3, 0, 5, 0, 2, 1, 14, 3};    /* id 5, 2x1, at (14,3) */
     static const uint8_t arm_usb[8] = {3, 0, 6, 0, 2, 2, 14, 8};    /* id 6, 2x2, at (14,8) */
+    static const uint8_t larger_i2c[8] = {4, 2, 2, 0, 5, 3, 0, 0};  /* id 2 for 5x3, rule 2 */
     static const uint8_t disarm_can[8] = {2, 0, 4, 0, 0, 0, 0, 0};
 
     if (freelist_code(freelist_clear(W, H, weights, sizeof weights, table, sizeof table)) != 0)
@@ -81,7 +82,7 @@ int main(void)
     if (show() ||
         run("arm UART", arm_uart) || run("arm I2C", arm_i2c) || run("arm SPI", arm_spi) || show() ||
         run("arm CAN", arm_can) || run("arm LIN", arm_lin) || run("arm USB", arm_usb) || show() ||
-        run("disarm CAN", disarm_can) || show())
+        run("exchange I2C", larger_i2c) || show() || run("disarm CAN", disarm_can) || show())
         return 1;
     return 0;
 }

@@ -1,6 +1,9 @@
 /* A host that sets the fabric's processor, a hard block that no trigger may use,
  * on a surface of 8 by 6 cells; then arms, exchanges and disarms triggers and
- * prints where each stands and what is free. */
+ * prints where each stands and what is free. The I2C trigger gives way to larger
+ * ones beside it, and so goes on watching the bus until they are loaded. For the
+ * tall one there is room only across its own cells: it is refused (20) until the
+ * SPI trigger is disarmed. */
 #include <stdio.h>
 
 #include "freelist.h"
@@ -47,8 +50,8 @@ int main(void)
     static const uint8_t processor[8] = {6, 0, 9, 0, 2, 2, 0, 4};   /* id 9, 2x2, set at (0,4) */
     static const uint8_t arm_i2c[8] = {1, 2, 1, 0, 3, 2, 0, 0};     /* id 1, 3x2, rule 2 */
     static const uint8_t arm_spi[8] = {3, 0, 2, 0, 2, 3, 5, 1};     /* id 2, 2x3, pinned at (5,1) */
-    static const uint8_t larger_i2c[8] = {4, 2, 1, 0, 5, 3, 0, 0};  /* id 1 for 5x3 */
-    static const uint8_t far_too_wide[8] = {4, 2, 1, 0, 9, 1, 0, 0}; /* id 1 for 9x1 */
+    static const uint8_t larger_i2c[8] = {4, 2, 1, 0, 5, 3, 0, 0};  /* id 1 for 5x3, rule 2 */
+    static const uint8_t tall_i2c[8] = {4, 2, 1, 0, 3, 6, 0, 0};    /* id 1 for 3x6, rule 2 */
     static const uint8_t disarm_spi[8] = {2, 0, 2, 0, 0, 0, 0, 0};
     static const uint8_t no_processor[8] = {2, 0, 9, 0, 0, 0, 0, 0}; /* only a clear removes it */
 
@@ -56,8 +59,9 @@ int main(void)
         return 1;
     if (run("set processor", processor) ||
         run("arm I2C", arm_i2c) || run("arm SPI", arm_spi) || list() ||
-        run("exchange I2C", larger_i2c) || run("exchange I2C", far_too_wide) || list() ||
-        run("disarm SPI", disarm_spi) || run("remove processor", no_processor) || list())
+        run("exchange I2C", larger_i2c) || list() || run("exchange I2C", tall_i2c) ||
+        run("disarm SPI", disarm_spi) || run("exchange I2C", tall_i2c) ||
+        run("remove processor", no_processor) || list())
         return 1;
     uint64_t r = freelist_check(W, H, weights, sizeof weights, table, sizeof table);
     printf("check: code %u, %u slots used\n", freelist_code(r), freelist_first(r));

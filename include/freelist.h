@@ -42,15 +42,20 @@
  *           op 2 remove     rule = w = h = a = b = 0
  *           op 3 pin        at x = a, y = b; rule = 0
  *           op 4 exchange   the module with this id for one of a new size, by
- *                           rule; a = b = 0. It keeps its slot.
+ *                           rule; a = b = 0. Judged with the old one in its place:
+ *                           the new one shares no cell with it. The old one goes
+ *                           when the new one stands: for the next request its
+ *                           cells are empty, so load in the order of the answers.
+ *                           The id keeps its slot, no free one is needed.
  *           op 6 set        a hard block, at x = a, y = b; rule = 0
  *
  *           Place, pin and set take the lowest free slot.
  *
- *           A rule chooses among the entries of the list with room for the
- *           module: 0 the first; 1 the one with least area to spare; 2 the least
- *           (H - y - h)*W + x of the entry. Ties go to the earlier entry. The
- *           module stands in the entry's lower left corner.
+ *           A rule chooses among the entries with room for the module in the list
+ *           that freelist_list would give just before the request: 0 the first; 1
+ *           the one with least area to spare; 2 the least (H - y - h)*W + x of the
+ *           entry. Ties go to the earlier entry. The module stands in the entry's
+ *           lower left corner.
  *
  * answers   as long as the requests: 8 bytes to each, in turn.
  *
@@ -95,9 +100,9 @@
  * same id or share a cell; and every weight is as said above. freelist_clear makes
  * one, and freelist_run leaves one.
  *
- * A request that is refused changes neither weights nor table, and the next one
- * runs. The code in its answer is the first of this list that applies (23 stands
- * behind 16):
+ * A request that is refused writes no byte of weights or table, so the old module
+ * of an exchange stays, and the next request runs. The code in the answer is the
+ * first of this list that applies (23 stands behind 16):
  *
  *      11   op is not 1, 2, 3, 4 or 6
  *      12   a byte that must be 0 is not
@@ -109,7 +114,8 @@
  *      17   w or h is 0                                     all but remove
  *      18   x + w > W or y + h > H                          pin, set
  *      19   no free slot                                    place, pin, set
- *      20   no position has all its cells empty             place, exchange
+ *      20   no position has all its cells empty (those of   place, exchange
+ *           the module to be exchanged are occupied)
  *      21   a cell of the place is occupied                 pin, set
  *
  * (22, a rule's place with an occupied cell, is proved never to be given.)
@@ -141,8 +147,8 @@ uint64_t freelist_check(uint64_t w, uint64_t h,
                         const uint8_t *table, uint64_t table_len);
 
 /* Runs the requests in turn, each on what the one before left. First count:
- * requests accepted. Writes to weights and table what they leave, and to all of
- * answers. */
+ * requests accepted. Writes to weights and table what they leave, to neither where
+ * none is accepted, and to all of answers. */
 uint64_t freelist_run(uint64_t w, uint64_t h,
                       uint8_t *weights, uint64_t weights_len,
                       uint8_t *table, uint64_t table_len,

@@ -441,9 +441,10 @@ static struct request read_request(const uint8_t *b)
     return q;
 }
 
-/* The surface that a request is judged on, and what it would bring about. */
+/* The surface that a request is judged on, as it stands, and what it would bring
+ * about. */
 struct judged {
-    struct surface without;      /* "without the old module", for 4 */
+    struct surface surface;
     struct list list;            /* its list */
     unsigned slot;               /* the slot the module has or is to have */
     struct rectangle place;      /* of the new module, or of the removed one */
@@ -552,20 +553,6 @@ static struct rectangle place_by_rule(const struct surface *s, struct list *list
     return place;
 }
 
-/* "Exchange is judged on the surface without the old module"; the others on
- * the surface as it is. */
-static void read_without(struct surface *s, unsigned W, unsigned H,
-                         const uint8_t *table, unsigned slots,
-                         const struct request *q)
-{
-    uint8_t copy[SLOTS_MAX * RECORD];
-    unsigned old = slot_of(table, slots, q->id);
-    memcpy(copy, table, RECORD * slots);
-    if (q->operation == EXCHANGE && old < slots)
-        memset(copy + RECORD * old, 0, RECORD);
-    read_surface(s, W, H, copy, slots);
-}
-
 /* "Place and pin use the lowest free slot, so a freed slot is used again.
  * Exchange [...] keeps its slot". */
 static unsigned slot_for(const uint8_t *table, unsigned slots,
@@ -619,7 +606,9 @@ static unsigned judge(unsigned W, unsigned H, const uint8_t *table,
     if (fresh && lowest_free(table, slots) == slots)
         return 19;
 
-    read_without(&j->without, W, H, table, slots, q);
+    /* "Exchange is now judged with the old module in its place" (order 3): as all
+     * the others, on the surface that the whole table says. */
+    read_surface(&j->surface, W, H, table, slots);
     j->slot = slot_for(table, slots, q);
     if (op == REMOVE)
         j->place = slot_module(table + RECORD * j->slot);
@@ -627,21 +616,22 @@ static unsigned judge(unsigned W, unsigned H, const uint8_t *table,
         j->place = pinned;
 
     /* "20: no position has all its cells empty" (1, 4) */
-    if (by_rule && no_position(&j->without, q->w, q->h))
+    if (by_rule && no_position(&j->surface, q->w, q->h))
         return 20;
     /* "21: a cell of the place is occupied" (3, 6) */
-    if (at_place && !cells_are_empty(&j->without, j->place))
+    if (at_place && !cells_are_empty(&j->surface, j->place))
         return 21;
     /* "22: the place that the rule chose has an occupied cell" (1, 4) */
     if (by_rule)
-        j->place = place_by_rule(&j->without, &j->list, q);
-    if (by_rule && !cells_are_empty(&j->without, j->place))
+        j->place = place_by_rule(&j->surface, &j->list, q);
+    if (by_rule && !cells_are_empty(&j->surface, j->place))
         return 22;
     return 0;
 }
 
 /* An accepted request changes one table record; then every weight is worked
- * out afresh from the table. */
+ * out afresh from the table. Of an exchange "the old one goes when the new one
+ * stands" (order 3): the new record takes the place of the old one. */
 static void carry_out(unsigned W, unsigned H, uint8_t *weights, uint8_t *table,
                       unsigned slots, const struct request *q,
                       const struct judged *j)

@@ -3,10 +3,15 @@
  * output on every machine.
  *
  *   generate stream KIND SEED N     N request records, binary
+ *   generate exchanges KIND SEED N  how the exchanges among them are answered; exit
+ *                                   status 1 where some sort never comes up, or
+ *                                   fewer than a quarter are accepted
  *   generate cases SEED N           N call cases, one a line
- *   generate coverage SEED N        how often those cases give each code; exit
- *                                   status 1 where one is never given, or amiss
+ *   generate coverage SEED N        how often those cases give each code, and how
+ *                                   their exchanges are answered; exit status 1
+ *                                   where one never comes up, or a code is amiss
  */
+#include "../exchanges.h"
 #include "brute.h"
 
 #include <stdio.h>
@@ -41,14 +46,24 @@ static unsigned side_w, side_h;         /* of the last sound clear */
 
 static int open_stream(void) { return given < wanted; }
 
+static void print_record(const uint8_t r[8])
+{
+    for (unsigned i = 0; i < 8; i++)
+        putchar(r[i]);
+}
+
+static void (*take_record)(const uint8_t r[8]) = print_record;
+
 static void put(unsigned op, unsigned rule, unsigned id, unsigned w, unsigned h,
                 unsigned b6, unsigned b7)
 {
-    unsigned r[8] = { op, rule, id & 255, id >> 8 & 255, w, h, b6, b7 };
+    unsigned q[8] = { op, rule, id & 255, id >> 8 & 255, w, h, b6, b7 };
+    uint8_t r[8];
     if (!open_stream())
         return;
     for (unsigned i = 0; i < 8; i++)
-        putchar((int)(r[i] & 255));
+        r[i] = (uint8_t)(q[i] & 255);
+    take_record(r);
     given++;
 }
 
@@ -161,6 +176,14 @@ static uint8_t asked[1024];
 
 static void forget_asked(void) { memset(asked, 0, sizeof asked); }
 
+/* An exchange: beside the old module there is less room than on the surface, so half
+ * of them are for half the size; and some for one larger both ways. */
+static void put_exchange_load(unsigned id, unsigned w, unsigned h, unsigned rule)
+{
+    unsigned part = from_to(1, 2), more = one_in(4) ? 1 : 0;
+    put_exchange(id, (w + part - 1) / part + more, (h + part - 1) / part + more, rule);
+}
+
 /* One mostly sound request under ids 1..ids. */
 static void put_load(unsigned ids, unsigned limit_w, unsigned limit_h, unsigned removes)
 {
@@ -180,7 +203,7 @@ static void put_load(unsigned ids, unsigned limit_w, unsigned limit_h, unsigned 
         asked[id] = 0;
         put_remove(id);
     } else if (one_in(2)) {
-        put_exchange(id, w, h, rule);
+        put_exchange_load(id, w, h, rule);
     } else {
         put_place(id, w, h, rule);
     }
@@ -271,7 +294,7 @@ static void exchange_step(unsigned ids, unsigned id, unsigned w, unsigned h)
 static void exchange_history(unsigned ids)
 {
     unsigned id = from_to(1, ids), rule = below(3);
-    unsigned w = side(side_w), h = side(side_h);
+    unsigned w = side(side_w / 2), h = side(side_h / 2);
     if (one_in(2))
         put_place(id, w, h, rule);
     else
@@ -289,10 +312,28 @@ static void exchange_history(unsigned ids)
         put_exchange(id, 1, 1, rule);
 }
 
+/* "the new one may not cover a single old cell" (order 3): on a surface just cleared,
+ * with a module in its left or lower part, one is asked for that fills the rest, or
+ * has one column or row too many; and between them the first size again. */
+static void exchange_across(unsigned id)
+{
+    unsigned lying = below(2), rule = below(3);
+    unsigned w = lying ? side_w : from_to(1, side_w), h = lying ? from_to(1, side_h) : side_h;
+    put_place(id, w, h, rule);
+    for (unsigned n = from_to(2, 4); n > 0; n--) {
+        unsigned more = one_in(3) ? 1 : 0, again = below(3);
+        put_exchange(id, lying ? w : side_w - w + more, lying ? side_h - h + more : h, again);
+        if (one_in(2))
+            put_exchange(id, w, h, again);
+    }
+    put_remove(id);
+}
+
 static void stream_exchange(void)
 {
     before_the_clear();
     while (open_surface(1, 16)) {
+        exchange_across(5);
         for (unsigned n = from_to(3, 12); n > 0 && open_stream(); n--)
             exchange_history(4);
     }
@@ -463,7 +504,7 @@ static void at_hard(unsigned id)
 static void stream_hard(void)
 {
     before_the_clear();
-    while (open_surface(2, 24)) {
+    while (open_surface(2, one_in(2) ? 8 : 24)) {
         unsigned hards = from_to(1, 8);
         for (unsigned id = 1; id <= hards; id++) {
             unsigned w = side(side_w / 2), h = side(side_h / 2);
@@ -496,6 +537,58 @@ static int make_stream(const char *kind)
         }
     fprintf(stderr, "generate: no such kind\n");
     return 2;
+}
+
+/* ---- the exchanges of a stream --------------------------------------------- */
+
+static struct exchanges counted;
+
+/* The program's surface, and a copy of it as it was before a record. */
+static uint8_t stream_weights[2 * 64 * 64], stream_table[8 * 256];
+static uint8_t weights_before[sizeof stream_weights], table_before[sizeof stream_table];
+static uint64_t stream_w, stream_h;
+
+/* "operation 5, clear: W and H in bytes 4 and 5, the rest zero" */
+static void clear_stream(const uint8_t r[8])
+{
+    uint64_t w = r[4], h = r[5];
+    if (r[1] != 0 || r[2] != 0 || r[3] != 0 || r[6] != 0 || r[7] != 0)
+        return;
+    if (brute_clear(w, h, stream_weights, 2 * w * h, stream_table, sizeof stream_table) != 0)
+        return;
+    stream_w = w;
+    stream_h = h;
+}
+
+static void count_request(const uint8_t r[8])
+{
+    uint64_t weights_len = 2 * stream_w * stream_h;
+    struct loans before = { .w = stream_w, .h = stream_h,
+                            .at = { [WEIGHTS] = weights_before, [TABLE] = table_before },
+                            .len = { [WEIGHTS] = weights_len, [TABLE] = sizeof table_before } };
+    uint8_t answer[8];
+    memcpy(weights_before, stream_weights, sizeof stream_weights);
+    memcpy(table_before, stream_table, sizeof stream_table);
+    brute_run(stream_w, stream_h, stream_weights, weights_len, stream_table, sizeof stream_table,
+              r, 8, answer, 8);
+    count_exchange(&counted, &before, r, answer);
+}
+
+static void count_record(const uint8_t r[8])
+{
+    if (r[0] == 5)
+        clear_stream(r);
+    else if (stream_w != 0)
+        count_request(r);
+}
+
+static int count_stream(const char *kind)
+{
+    take_record = count_record;
+    if (make_stream(kind) != 0)
+        return 2;
+    print_exchanges(&counted);
+    return exchanges_came_up(&counted) && 3 * counted.accepted >= counted.refused ? 0 : 1;
 }
 
 /* ======================= cases =========================================== */
@@ -619,6 +712,17 @@ static void standing(struct call_case *c)
     }
 }
 
+static struct loans loans_of(struct call_case *c)
+{
+    struct lent *lent[BUFFERS] = { &c->weights, &c->table, &c->requests, &c->answers, &c->room };
+    struct loans l = { .w = c->w, .h = c->h };
+    for (unsigned i = 0; i < BUFFERS; i++) {
+        l.at[i] = lent[i]->byte;
+        l.len[i] = lent[i]->len;
+    }
+    return l;
+}
+
 static void draw_block(struct call_case *c, unsigned n)
 {
     c->requests.len = 8 * n;
@@ -642,16 +746,33 @@ static unsigned entries_of(const struct call_case *c)
                       >> 16 & 0xffff);
 }
 
+/* A slot that is used, or free; NULL when there is none. */
+static uint8_t *some_slot(struct call_case *c, int used)
+{
+    unsigned n = (unsigned)(c->table.len / 8), start = below(n);
+    for (unsigned k = 0; k < n; k++) {
+        uint8_t *s = c->table.byte + 8 * ((start + k) % n);
+        int is_used = s[0] != 0 || s[1] != 0;
+        if (is_used == used)
+            return s;
+    }
+    return NULL;
+}
+
 /* ---- aims of a run: each operation with each code it can have ------------ */
 
-/* Where 23 stands among the codes: FLAT has a w of 0, as 23 comes before 17, and
- * OF_HARD has the id of a block, as 12 and 13 come before 23. */
-enum { FLAT = 1, OF_HARD = 2 };
+/* How the aim is meant. FLAT has a w of 0, as 23 comes before 17, and OF_HARD the
+ * id of a block, as 12 and 13 come before 23. Of an exchange (order 3): BESIDE is
+ * accepted beside the old module, ELSEWHERE elsewhere than without it; FOR_OLD is
+ * refused for it, and ANYWAY without it too; SAME_SIZE has the old module's size,
+ * and FULL no free slot. */
+enum { PLAIN, FLAT, OF_HARD, BESIDE, ELSEWHERE, FOR_OLD, ANYWAY, SAME_SIZE, FULL };
 struct aim { uint8_t op, code, how; };
 
 static const struct aim aims[] = {
-    { 1, 0, 0 }, { 3, 0, 0 }, { 6, 0, 0 }, { 4, 0, 0 }, { 2, 0, 0 }, { 1, 20, 0 },
-    { 3, 21, 0 }, { 6, 21, 0 }, { 4, 20, 0 }, { 1, 19, 0 }, { 3, 19, 0 }, { 6, 19, 0 },
+    { 1, 0, 0 }, { 3, 0, 0 }, { 6, 0, 0 }, { 4, 0, BESIDE }, { 4, 20, FOR_OLD }, { 2, 0, 0 },
+    { 4, 0, ELSEWHERE }, { 4, 20, SAME_SIZE }, { 4, 0, SAME_SIZE }, { 4, 0, FULL }, { 1, 20, 0 },
+    { 3, 21, 0 }, { 6, 21, 0 }, { 4, 20, ANYWAY }, { 1, 19, 0 }, { 3, 19, 0 }, { 6, 19, 0 },
     { 3, 18, 0 }, { 6, 18, 0 },
     { 1, 17, 0 }, { 3, 17, 0 }, { 6, 17, 0 }, { 4, 17, 0 }, { 2, 23, 0 }, { 4, 23, 0 },
     { 4, 23, FLAT }, { 2, 16, 0 }, { 4, 16, 0 }, { 1, 15, 0 }, { 3, 15, 0 }, { 6, 15, 0 },
@@ -661,38 +782,72 @@ static const struct aim aims[] = {
 };
 enum { AIMS = sizeof aims / sizeof aims[0] };
 
-/* The first block of the fabric, or NULL. */
-static const uint8_t *first_hard(const struct call_case *c)
+/* The first used slot of this kind, or NULL. */
+static const uint8_t *first_of_kind(const struct call_case *c, unsigned kind)
 {
     for (uint64_t i = 0; i < c->table.len; i += 8)
-        if (c->table.byte[i + 6] == 1)
+        if (c->table.byte[i + 6] == kind && (c->table.byte[i] != 0 || c->table.byte[i + 1] != 0))
             return c->table.byte + i;
     return NULL;
 }
 
+static const uint8_t *first_hard(const struct call_case *c) { return first_of_kind(c, 1); }
+
+/* The request made to what the aim means, where the surface has it. */
+static void mean(const struct call_case *c, unsigned how, uint8_t *q)
+{
+    const uint8_t *slot = first_of_kind(c, how == OF_HARD ? 1 : 0);
+    if (how == FLAT)
+        q[4] = 0;
+    if ((how == OF_HARD || how == SAME_SIZE) && slot != NULL)
+        memcpy(q + 2, slot, 2);
+    if (how == SAME_SIZE && slot != NULL)
+        memcpy(q + 4, slot + 4, 2);
+}
+
+/* Whether the answer is as the aim means; c is the surface before it. */
+static int is_meant(struct call_case *c, unsigned how, const uint8_t *q, const uint8_t *a)
+{
+    struct exchanges n = { 0 };
+    struct loans l = loans_of(c);
+    count_exchange(&n, &l, q, a);
+    switch (how) {
+    case OF_HARD: return first_hard(c) != NULL;
+    case BESIDE: return n.beside != 0;
+    case ELSEWHERE: return n.elsewhere != 0;
+    case FOR_OLD: return n.for_the_old != 0;
+    case ANYWAY: return n.for_the_old == 0;
+    case FULL: return some_slot(c, 0) == NULL;
+    default: return 1;
+    }
+}
+
 /* A request that has the aim's code on this surface. */
-static int aim_request(const struct call_case *c, struct aim aim, uint8_t *q)
+static int aim_request(struct call_case *c, struct aim aim, uint8_t *q)
 {
     uint8_t a[8];
-    const uint8_t *hard = first_hard(c);
-    if (aim.how == OF_HARD && hard == NULL)
-        return 0;
     for (unsigned tries = 0; tries < 60; tries++) {
         struct call_case copy = *c;
         draw_request(q, aim.op);
-        if (aim.how == FLAT)
-            q[4] = 0;
-        if (aim.how == OF_HARD)
-            memcpy(q + 2, hard, 2);
+        mean(c, aim.how, q);
         run_on(&copy, q, 8, a);
-        if (a[0] == aim.code)
+        if (a[0] == aim.code && is_meant(c, aim.how, q, a))
             return 1;
     }
     return 0;
 }
 
+/* An aim for another request of the block: to be accepted, exchanges more often, or
+ * an exchange to be refused for the old module. */
+static struct aim other_aim(void)
+{
+    if (one_in(4))
+        return (struct aim){ 4, 20, FOR_OLD };
+    return (struct aim){ (uint8_t)(one_in(3) ? 4 : draw_operation()), 0, PLAIN };
+}
+
 /* A block of 1..5 requests, one of them aimed, on the surface before it; of the
- * others every second one is drawn so that it is accepted, where it can be. */
+ * others every second one has an aim too, where it can be met. */
 static int aim_block(struct call_case *c, unsigned aim)
 {
     unsigned n = from_to(1, 5), mark = below(n);
@@ -704,7 +859,7 @@ static int aim_block(struct call_case *c, unsigned aim)
         if (i == mark && !aim_request(&now, aims[aim], q))
             return 0;
         if (i != mark && one_in(2))
-            aim_request(&now, (struct aim){ (uint8_t)draw_operation(), 0, 0 }, q);
+            aim_request(&now, other_aim(), q);
         run_on(&now, q, 8, a);
     }
     return 1;
@@ -808,19 +963,6 @@ static int some_cell(const struct call_case *c, int empty)
         if ((int_weight(c, (start + k) % n) > 0) == empty)
             return (int)((start + k) % n);
     return -1;
-}
-
-/* A slot that is used, or free; NULL when there is none. */
-static uint8_t *some_slot(struct call_case *c, int used)
-{
-    unsigned n = (unsigned)(c->table.len / 8), start = below(n);
-    for (unsigned k = 0; k < n; k++) {
-        uint8_t *s = c->table.byte + 8 * ((start + k) % n);
-        int is_used = s[0] != 0 || s[1] != 0;
-        if (is_used == used)
-            return s;
-    }
-    return NULL;
 }
 
 static int slot_covers(const uint8_t *s, unsigned x, unsigned y)
@@ -1104,12 +1246,7 @@ DEFINE_ON(brute)
 
 static uint64_t make_call(struct call_case *c)
 {
-    struct lent *lent[BUFFERS] = { &c->weights, &c->table, &c->requests, &c->answers, &c->room };
-    struct loans l = { .w = c->w, .h = c->h };
-    for (unsigned i = 0; i < BUFFERS; i++) {
-        l.at[i] = lent[i]->byte;
-        l.len[i] = lent[i]->len;
-    }
+    struct loans l = loans_of(c);
     return on_brute(c->call, &l);
 }
 
@@ -1167,9 +1304,22 @@ static void print_case(struct call_case *c)
 
 static unsigned long blocks_of[6], standing_with_hard;
 
+/* Each on the surface that the one before left. */
+static void count_exchanges(struct call_case *c)
+{
+    uint8_t a[8];
+    for (uint64_t i = 0; i < c->requests.len; i += 8) {
+        struct call_case before = *c;
+        struct loans l = loans_of(&before);
+        run_on(c, c->requests.byte + i, 8, a);
+        count_exchange(&counted, &l, c->requests.byte + i, a);
+    }
+}
+
 static void count_case(struct call_case *c)
 {
     int hard = c->call != CLEAR && first_hard(c) != NULL;
+    struct call_case before = *c;
     uint64_t r = make_call(c);
     count_result(c->call, r);
     standing_with_hard += hard && part_of(r, 0) == 0;
@@ -1177,6 +1327,7 @@ static void count_case(struct call_case *c)
         return;
     blocks_of[c->requests.len / 8]++;
     count_answers(c->answers.byte, c->answers.len);
+    count_exchanges(&before);
 }
 
 static int print_coverage(void)
@@ -1186,9 +1337,10 @@ static int print_coverage(void)
     for (unsigned i = 0; i < 6; i++)
         printf(" %lu", blocks_of[i]);
     printf("\nblocks of the fabric on %lu surfaces that stand\n", standing_with_hard);
+    print_exchanges(&counted);
     unsigned n = codes_amiss();
     printf("amiss %u\n", n);
-    return n == 0 && standing_with_hard != 0 ? 0 : 1;
+    return n == 0 && standing_with_hard != 0 && exchanges_came_up(&counted) ? 0 : 1;
 }
 
 static void each_case(unsigned long n, void (*take)(struct call_case *))
@@ -1206,6 +1358,7 @@ static void each_case(unsigned long n, void (*take)(struct call_case *))
 static int usage(void)
 {
     fprintf(stderr, "generate stream KIND SEED N\n"
+                    "generate exchanges KIND SEED N\n"
                     "generate cases SEED N\n"
                     "generate coverage SEED N\n");
     return 2;
@@ -1215,13 +1368,13 @@ int main(int argc, char **argv)
 {
     if (argc < 4)
         return usage();
-    int stream = strcmp(argv[1], "stream") == 0;
-    if (argc != (stream ? 5 : 4))
+    int stream = strcmp(argv[1], "stream") == 0, exchanges = strcmp(argv[1], "exchanges") == 0;
+    if (argc != (stream || exchanges ? 5 : 4))
         return usage();
     state = strtoull(argv[argc - 2], NULL, 10);
     wanted = strtoul(argv[argc - 1], NULL, 10);
-    if (stream)
-        return make_stream(argv[2]);
+    if (stream || exchanges)
+        return stream ? make_stream(argv[2]) : count_stream(argv[2]);
     int coverage = strcmp(argv[1], "coverage") == 0;
     if (!coverage && strcmp(argv[1], "cases") != 0)
         return usage();

@@ -59,7 +59,7 @@ smoke() {
 mkdir -p "$build" || exit 1
 compile test_brute test_brute.c brute_program.c brute.c
 compile brute_freelist brute_freelist.c brute_program.c brute.c
-compile generate generate.c brute.c ../table.c
+compile generate generate.c brute.c ../table.c ../exchanges.c
 
 example | "$build/brute_freelist" > "$build/out" || fail "program on its example"
 cmp "$build/out" "$here/expected_example.txt" || fail "the program's example"
@@ -76,6 +76,7 @@ for seed in 1 2 3; do
         esac
         smoke $kind $seed $n
     done
+    "$build/generate" exchanges exchange $seed 300 || fail "exchanges of seed $seed"
     "$build/generate" coverage $seed 200 > "$build/out" || fail "coverage of seed $seed"
     "$build/generate" cases $seed 200 > "$build/cases" || fail "cases of seed $seed"
     [ "$(wc -l < "$build/cases")" -eq 200 ] || fail "number of cases of seed $seed"

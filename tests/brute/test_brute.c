@@ -211,13 +211,12 @@ static void cases_d_to_f(void)
 static void cases_g_to_i(void)
 {
     struct bench b, d;
-    case_d_of(&b);                                          /* G */
-    CHECK(exchange(&b, 7, 2, 2, 2) == 0 && at(&b, 0, 1, 2, 2));
-    CHECK(slot_is(&b, 0, 7, 0, 1, 2, 2));
-
-    case_d_of(&d);                                          /* H */
+    case_d_of(&d);
     b = d;
-    CHECK(exchange(&b, 7, 4, 1, 0) == 20);
+    for (unsigned rule = 0; rule < 3; rule++) {
+        CHECK(exchange(&b, 7, 2, 2, rule) == 20);           /* G: "now gives 20" (order 3) */
+        CHECK(exchange(&b, 7, 4, 1, rule) == 20);           /* H */
+    }
     CHECK(memcmp(b.weights, d.weights, sizeof d.weights) == 0);
     CHECK(memcmp(b.table, d.table, sizeof d.table) == 0);
 
@@ -732,10 +731,10 @@ static void codes_18_to_21(void)
     CHECK(pin(&b, 2, 1, 1, 2, 1) == 19);        /* 19 before 21 */
     CHECK(place(&b, 2, 200, 1, 0) == 19);       /* 19 before 20 */
     CHECK(place(&b, 2, 1, 1, 0) == 19);
-    CHECK(exchange(&b, 1, 4, 3, 0) == 0 && at(&b, 0, 0, 4, 3));
-    CHECK(exchange(&b, 1, 5, 1, 0) == 20);      /* 20 */
-    CHECK(exchange(&b, 1, 4, 3, 1) == 0 && exchange(&b, 1, 1, 1, 2) == 0);
-    CHECK(at(&b, 0, 2, 1, 1));
+    CHECK(exchange(&b, 1, 2, 3, 0) == 0 && at(&b, 0, 0, 2, 3));     /* needs no free slot */
+    CHECK(exchange(&b, 1, 5, 1, 0) == 20 && exchange(&b, 1, 3, 1, 0) == 20);    /* 20 */
+    CHECK(exchange(&b, 1, 2, 3, 1) == 0 && at(&b, 2, 0, 2, 3));
+    CHECK(exchange(&b, 1, 1, 1, 2) == 0 && at(&b, 0, 2, 1, 1));
     cleared(&b, 4, 3, 3);
     CHECK(pin(&b, 1, 1, 1, 1, 1) == 0);
     CHECK(place(&b, 2, 3, 2, 0) == 20 && place(&b, 2, 2, 3, 0) == 0 && at(&b, 2, 0, 2, 3));
@@ -853,19 +852,111 @@ static void rules_and_ties(void)
     }
 }
 
+/* "exchanged for a larger one under its own id, refused, asked again, then removed";
+ * it "keeps its slot", 1, though 0 is free. */
 static void exchanges(void)
 {
     struct bench b;
     cleared(&b, 3, 3, 3);
     CHECK(pin(&b, 1, 1, 1, 0, 0) == 0 && pin(&b, 2, 1, 1, 1, 1) == 0);
     CHECK(removed(&b, 1) == 0 && at(&b, 0, 0, 1, 1) && b.table[0] == 0);
-    CHECK(exchange(&b, 2, 3, 3, 0) == 0);       /* keeps slot 1 */
-    CHECK(slot_is(&b, 0, 0, 0, 0, 0, 0) && slot_is(&b, 1, 2, 0, 0, 3, 3));
-    CHECK(exchange(&b, 2, 4, 3, 0) == 20 && exchange(&b, 2, 4, 3, 0) == 20);
-    CHECK(slot_is(&b, 1, 2, 0, 0, 3, 3));
-    CHECK(removed(&b, 2) == 0 && at(&b, 0, 0, 3, 3));
+    CHECK(exchange(&b, 2, 3, 1, 0) == 0 && at(&b, 0, 0, 3, 1));
+    CHECK(slot_is(&b, 0, 0, 0, 0, 0, 0) && slot_is(&b, 1, 2, 0, 0, 3, 1));
+    CHECK(slot_is(&b, 2, 0, 0, 0, 0, 0) && check_call(&b) == (uint64_t)1 << 16);
+    CHECK(exchange(&b, 2, 3, 3, 0) == 20 && exchange(&b, 2, 3, 3, 0) == 20);
+    CHECK(slot_is(&b, 1, 2, 0, 0, 3, 1));
+    CHECK(exchange(&b, 2, 3, 2, 0) == 0 && slot_is(&b, 1, 2, 0, 1, 3, 2));
+    CHECK(removed(&b, 2) == 0 && at(&b, 0, 1, 3, 2));
     CHECK(counts(&b, 1, 1) && check_call(&b) == 0);
     CHECK(place(&b, 9, 1, 1, 0) == 0 && slot_is(&b, 0, 9, 0, 2, 1, 1));
+}
+
+/* "the old one goes when the new one stands" (order 3): beside its old place, of its
+ * old size too, and with one slot in all, so that none is free. */
+static void exchange_moves(void)
+{
+    struct bench b;
+    for (unsigned rule = 0; rule < 3; rule++) {
+        cleared(&b, 3, 1, 1);
+        CHECK(pin(&b, 1, 1, 1, 0, 0) == 0);
+        CHECK(exchange(&b, 1, 2, 1, rule) == 0 && at(&b, 1, 0, 2, 1));
+        CHECK(row_is(&b, 0, (int[]){ 1, -2, -1 }) && slot_is(&b, 0, 1, 1, 0, 2, 1));
+        CHECK(exchange(&b, 1, 2, 1, rule) == 20 && exchange(&b, 1, 1, 1, rule) == 0);
+        CHECK(row_is(&b, 0, (int[]){ -1, 1, 1 }) && slot_is(&b, 0, 1, 0, 0, 1, 1));
+        CHECK(exchange(&b, 1, 1, 1, rule) == 0 && at(&b, 1, 0, 1, 1));
+        CHECK(row_is(&b, 0, (int[]){ 1, -1, 1 }) && slot_is(&b, 0, 1, 1, 0, 1, 1));
+        CHECK(exchange(&b, 1, 2, 1, rule) == 20 && place(&b, 2, 1, 1, rule) == 19);
+        CHECK(exchange(&b, 1, 1, 1, rule) == 0 && at(&b, 0, 0, 1, 1));
+    }
+}
+
+/* "the new one may not cover a single old cell" (order 3): each would fit without the
+ * old module; on a full surface there is no exchange at all. */
+static void exchange_stays(void)
+{
+    struct bench b;
+    for (unsigned rule = 0; rule < 3; rule++) {
+        cleared(&b, 2, 1, 2);
+        CHECK(pin(&b, 1, 1, 1, 0, 0) == 0 && exchange(&b, 1, 2, 1, rule) == 20);
+        CHECK(removed(&b, 1) == 0 && place(&b, 1, 2, 1, rule) == 0);
+        CHECK(exchange(&b, 1, 1, 1, rule) == 20 && exchange(&b, 1, 2, 1, rule) == 20);
+        cleared(&b, 4, 3, 2);                   /* the same size, one column short */
+        CHECK(pin(&b, 1, 2, 3, 1, 0) == 0 && exchange(&b, 1, 2, 3, rule) == 20);
+        CHECK(exchange(&b, 1, 2, 1, rule) == 20 && exchange(&b, 1, 1, 3, rule) == 0);
+        cleared(&b, 2, 2, 4);                   /* full, of one module and of four */
+        CHECK(pin(&b, 1, 2, 2, 0, 0) == 0 && exchange(&b, 1, 1, 1, rule) == 20);
+        CHECK(removed(&b, 1) == 0 && pin(&b, 1, 1, 1, 0, 0) == 0 && pin(&b, 2, 1, 1, 1, 0) == 0);
+        CHECK(pin(&b, 3, 1, 1, 0, 1) == 0 && exchange(&b, 1, 2, 1, rule) == 20);
+        CHECK(set(&b, 4, 1, 1, 1, 1) == 0 && exchange(&b, 1, 1, 1, rule) == 20);
+    }
+}
+
+/* The rule chooses from the list of the surface with the old module. Here it is 1x1
+ * at (0,2), and a block fills column 2: (0,0,2,2), (1,0,1,3), (3,0,2,3). Without the
+ * old module the list has (0,0,2,3) and (3,0,2,3), so that by each rule the place is
+ * (0,2), which is the old one's; and the first beside it would be (3,2). */
+static void exchange_chosen(void)
+{
+    struct bench b;
+    const unsigned want[3][2] = { { 0, 1 }, { 1, 2 }, { 1, 2 } };
+    for (unsigned rule = 0; rule < 3; rule++) {
+        cleared(&b, 5, 3, 3);
+        CHECK(set(&b, 9, 1, 3, 2, 0) == 0 && counts(&b, 2, 2));
+        CHECK(entry_is(&b, 0, 0, 0, 2, 3) && entry_is(&b, 1, 3, 0, 2, 3));
+        CHECK(pin(&b, 1, 1, 1, 0, 2) == 0 && counts(&b, 3, 4));
+        CHECK(entry_is(&b, 0, 0, 0, 2, 2) && entry_is(&b, 1, 1, 0, 1, 3));
+        CHECK(entry_is(&b, 2, 3, 0, 2, 3));
+        CHECK(exchange(&b, 1, 1, 1, rule) == 0 && at(&b, want[rule][0], want[rule][1], 1, 1));
+        CHECK(slot_is(&b, 1, 1, want[rule][0], want[rule][1], 1, 1));
+    }
+    cleared(&b, 5, 3, 3);                       /* and by which the entries' sizes say */
+    CHECK(set(&b, 9, 1, 3, 2, 0) == 0 && pin(&b, 1, 1, 1, 0, 2) == 0);
+    CHECK(exchange(&b, 1, 2, 3, 0) == 0 && at(&b, 3, 0, 2, 3));
+    CHECK(exchange(&b, 1, 2, 3, 1) == 0 && at(&b, 0, 0, 2, 3));
+}
+
+/* The weights are those of the modules then placed: below the old place the count goes
+ * on from above, and below the new one it starts anew. */
+static void exchange_weights(void)
+{
+    struct bench b;
+    cleared(&b, 1, 5, 1);
+    CHECK(pin(&b, 1, 1, 1, 0, 2) == 0 && exchange(&b, 1, 1, 1, 0) == 0 && at(&b, 0, 1, 1, 1));
+    const int above[] = { 1, -1, 1, 2, 3 }, below[] = { 1, 2, 3, 4, -1 };
+    for (unsigned y = 0; y < 5; y++)
+        CHECK(weight(&b, 0, y) == above[y]);
+    CHECK(exchange(&b, 1, 1, 1, 2) == 0 && at(&b, 0, 4, 1, 1));
+    for (unsigned y = 0; y < 5; y++)
+        CHECK(weight(&b, 0, y) == below[y]);
+
+    cleared(&b, 3, 4, 2);                       /* one column of the old in common */
+    CHECK(pin(&b, 1, 2, 1, 0, 1) == 0 && pin(&b, 2, 1, 1, 1, 3) == 0);
+    CHECK(exchange(&b, 1, 2, 2, 0) == 20 && exchange(&b, 1, 1, 2, 2) == 0 && at(&b, 0, 2, 1, 2));
+    CHECK(row_is(&b, 0, (int[]){ 1, 1, 1 }) && row_is(&b, 1, (int[]){ 2, 2, 2 }));
+    CHECK(row_is(&b, 2, (int[]){ -1, 3, 3 }) && row_is(&b, 3, (int[]){ -1, -1, 4 }));
+    CHECK(exchange(&b, 1, 3, 1, 0) == 0 && at(&b, 0, 1, 3, 1));
+    CHECK(row_is(&b, 0, (int[]){ 1, 1, 1 }) && row_is(&b, 1, (int[]){ -3, -2, -1 }));
+    CHECK(row_is(&b, 2, (int[]){ 1, 1, 1 }) && row_is(&b, 3, (int[]){ 2, -1, 2 }));
 }
 
 /* ---- a whole block on one surface equals its requests one by one ---------- */
@@ -874,13 +965,14 @@ static void block_in_turn(void)
 {
     struct bench a, b;
     uint8_t q[6 * 8] = {
-        3, 0, 7, 0, 1, 1, 1, 1,  1, 0, 8, 0, 2, 2, 0, 0,  4, 2, 7, 0, 2, 2, 0, 0,
+        3, 0, 7, 0, 1, 1, 1, 1,  1, 0, 8, 0, 2, 2, 0, 0,  4, 2, 7, 0, 2, 1, 0, 0,
         9, 1, 2, 3, 4, 5, 6, 7,  2, 0, 7, 0, 0, 0, 0, 0,  1, 0, 8, 0, 2, 2, 0, 0 };
     uint8_t answers[6 * 8], want[6 * 8];
     cleared(&a, 3, 3, 2);
     cleared(&b, 3, 3, 2);
     CHECK(brute_run(3, 3, a.weights, 18, a.table, 16, q, 48, answers, 48)
           == (uint64_t)4 << 16);
+    CHECK(memcmp(answers + 16, "\0\4\7\0\0\2\2\1", 8) == 0);
     for (unsigned i = 0; i < 6; i++)
         brute_run(3, 3, b.weights, 18, b.table, 16, q + 8 * i, 8, want + 8 * i, 8);
     CHECK(memcmp(answers, want, 48) == 0);
@@ -993,6 +1085,42 @@ static int places_agree(unsigned W, unsigned H, unsigned filling, const struct b
     return 1;
 }
 
+/* An exchange of this module is answered as a place of another id would be, and the
+ * modules are then those of the place and a remove of the old one. */
+static int exchange_is_place(const struct bench *b, unsigned slot, const uint8_t q[8])
+{
+    struct bench e = *b, p = *b;
+    uint8_t old = b->table[8 * slot];
+    uint8_t one[8] = { 4, q[1], old, 0, q[4], q[5], 0, 0 };
+    uint8_t two[16] = { 1, q[1], 99, 1, q[4], q[5], 0, 0, 2, 0, old, 0, 0, 0, 0, 0 }, answers[16];
+    brute_run(b->w, b->h, e.weights, weights_len(b), e.table, table_len(b), one, 8, e.answer, 8);
+    brute_run(b->w, b->h, p.weights, weights_len(b), p.table, table_len(b), two, 16, answers, 16);
+    if (e.answer[0] != answers[0] || memcmp(e.answer + 4, answers + 4, 4) != 0)
+        return 0;
+    if (answers[0] != 0)
+        return memcmp(e.table, b->table, table_len(b)) == 0
+            && memcmp(e.weights, b->weights, weights_len(b)) == 0;
+    uint8_t want[8] = { old, 0, answers[4], answers[5], answers[6], answers[7], 0, 0 };
+    int kept = memcmp(e.table + 8 * slot, want, 8) == 0;
+    memcpy(e.table + 8 * slot, b->table + 8 * slot, 8);
+    return kept && memcmp(e.table, b->table, table_len(b)) == 0
+        && memcmp(e.weights, p.weights, weights_len(b)) == 0;
+}
+
+/* Of one module in turn, for every size and rule. */
+static int exchanges_agree(unsigned W, unsigned H, unsigned filling, const struct bench *b)
+{
+    unsigned slot = filling % (unsigned)b->slots, disagree = 0;
+    if (b->table[8 * slot] == 0 || b->table[8 * slot + 6] != 0)
+        return 1;
+    for (unsigned n = 0; n < 3 * (W + 1) * (H + 1); n++) {
+        uint8_t q[8] = { 4, (uint8_t)(n % 3), 0, 0, (uint8_t)(n / 3 % (W + 1) + 1),
+                         (uint8_t)(n / 3 / (W + 1) + 1), 0, 0 };
+        disagree += !exchange_is_place(b, slot, q);
+    }
+    return disagree == 0;
+}
+
 /* All modules and blocks are single cells: row y - 1 is scanned where row y has one. */
 static unsigned scanned_above(unsigned W, unsigned H, unsigned filling)
 {
@@ -1005,7 +1133,7 @@ static unsigned scanned_above(unsigned W, unsigned H, unsigned filling)
 static void every_filling(unsigned W, unsigned H)
 {
     static struct bench b;
-    unsigned wrong_list = 0, wrong_place = 0, wrong_rows = 0, off = 0;
+    unsigned wrong_list = 0, wrong_place = 0, wrong_exchange = 0, wrong_rows = 0, off = 0;
     for (unsigned filling = 0; filling >> (W * H) == 0; filling++) {
         uint8_t q[16 * 8], a[16 * 8];
         unsigned n = 0;
@@ -1025,11 +1153,13 @@ static void every_filling(unsigned W, unsigned H)
         off += code_of(b.listed) != 0;
         wrong_list += !list_is_all(W, H, filling, &b);
         wrong_place += !places_agree(W, H, filling, &b);
+        wrong_exchange += !exchanges_agree(W, H, filling, &b);
         wrong_rows += scanned(&b) != scanned_above(W, H, filling);
     }
     CHECK(off == 0);
     CHECK(wrong_list == 0);
     CHECK(wrong_place == 0);
+    CHECK(wrong_exchange == 0);
     CHECK(wrong_rows == 0);
 }
 
@@ -1112,6 +1242,17 @@ static void program_sets(void)
 #undef SETS
 }
 
+/* G and then an exchange that moves: the list is that of what is left. */
+static void program_exchanges(void)
+{
+    const uint8_t in[] = {
+        5, 0, 0, 0, 3, 3, 0, 0,  3, 0, 7, 0, 1, 1, 1, 1,  4, 2, 7, 0, 2, 2, 0, 0,
+        4, 0, 7, 0, 3, 1, 0, 0,  4, 2, 7, 0, 3, 1, 0, 0,  4, 0, 7, 0, 3, 3, 0, 0 };
+    CHECK(gives(in, sizeof in,
+        "0 5 0 0 0 3 3\n0 3 7 1 1 1 1\n20 4 7 0 0 0 0\n0 4 7 0 0 3 1\n0 4 7 0 2 3 1\n"
+        "20 4 7 0 0 0 0\nm 0 0 3 2 6\ncorners 1 list 1\n"));
+}
+
 int main(void)
 {
     cases_a_to_c();
@@ -1142,6 +1283,10 @@ int main(void)
     sets_as_pins();
     rules_and_ties();
     exchanges();
+    exchange_moves();
+    exchange_stays();
+    exchange_chosen();
+    exchange_weights();
     block_in_turn();
     hard_in_turn();
     every_filling(1, 1);
@@ -1154,6 +1299,7 @@ int main(void)
     program_example();
     program_clears();
     program_sets();
+    program_exchanges();
     printf("brute: %u checks, %u failed\n", checks, failed);
     return failed == 0 ? 0 : 1;
 }

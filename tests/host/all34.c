@@ -30,16 +30,48 @@ static void fill_table(void)
     }
 }
 
+/* A block of one request under each id, put there already. */
+static void run_each(void)
+{
+    c.call = RUN;
+    c.lent[REQUESTS].len = 8 * laid;
+    fill_any(&c.lent[ANSWERS], 8 * laid);
+    both(&c);
+}
+
+/* The first one's answer, to an exchange: "the new one may not cover a single old
+ * cell" (order 3), nor one of another. */
+static void covers_none(void)
+{
+    const uint8_t *a = c.lent[ANSWERS].byte, new[4] = { a[4], a[5], a[6], a[7] };
+    for (unsigned i = 0; i < laid; i++) {
+        const uint8_t *m = modules[i];
+        if (new[0] < m[0] + m[2] && m[0] < new[0] + new[2] && new[1] < m[1] + m[3] && m[1] < new[1] + new[3]) {
+            printf("host: an exchange to %ux%u covers a cell of module %u\n", a[6], a[7], i + 1);
+            differ++;
+        }
+    }
+}
+
+/* Each is to be exchanged in turn, mostly for a small one. */
+static void exchanged_each(void)
+{
+    for (unsigned i = 0; i < laid; i++) {
+        unsigned rule = below(3), w = from_to(1, one_in(3) ? W : 2), h = from_to(1, one_in(3) ? H : 2);
+        put_request(c.lent[REQUESTS].byte + 8 * i, 4, rule, i + 1, w, h, 0, 0);
+    }
+    run_each();
+    if (laid > 0 && c.lent[ANSWERS].byte[0] == 0)
+        covers_none();
+}
+
 /* "23, remove or exchange of a block, follows 16" (order 2): each is asked away, or
  * to be exchanged for one of 0x0, which is 17 of a module. */
 static void asked_away(void)
 {
-    c.call = RUN;
-    c.lent[REQUESTS].len = 8 * laid;
     for (unsigned i = 0; i < laid; i++)
         put_request(c.lent[REQUESTS].byte + 8 * i, one_in(2) ? 2 : 4, 0, i + 1, 0, 0, 0, 0);
-    fill_any(&c.lent[ANSWERS], 8 * laid);
-    both(&c);
+    run_each();
     for (unsigned i = 0; i < laid; i++) {
         const uint8_t *a = c.lent[ANSWERS].byte + 8 * i;
         if (a[0] == (kinds[i] == HARD ? 23 : a[1] == 4 ? 17 : 0))
@@ -51,7 +83,7 @@ static void asked_away(void)
 
 /* Room of W entries for each scanned row; in one case in eight also one byte less
  * than the entries take, and in one in four room for W*H of them or more. In one in
- * four each module is asked away. */
+ * three each module is exchanged, and in one in four asked away. */
 static void one_way(void)
 {
     c.w = W;
@@ -70,6 +102,8 @@ static void one_way(void)
         listed_in(&c, need - (need > 0));
     if (one_in(4))
         listed_in(&c, 8 * W * H + below(9));
+    if (one_in(3))
+        exchanged_each();
     if (one_in(4))
         asked_away();
     ways++;

@@ -9,7 +9,7 @@
 enum { W = 3, H = 2, CELLS = W * H };
 
 static uint8_t weights[2 * 65 * 65], table[8 * 257], requests[8 * 513], answers[8 * 514], room[8 * CELLS];
-static uint64_t slots;
+static uint64_t columns = W, rows = H, slots;
 static int cases, wrong;
 
 static void is(const char *what, unsigned code, unsigned expected)
@@ -28,12 +28,12 @@ static unsigned clear(uint64_t w, uint64_t h, uint64_t weights_len, uint64_t tab
 
 static unsigned check(void)
 {
-    return freelist_code(freelist_check(W, H, weights, 2 * CELLS, table, 8 * slots));
+    return freelist_code(freelist_check(columns, rows, weights, 2 * columns * rows, table, 8 * slots));
 }
 
 static unsigned run(uint64_t requests_len, uint64_t answers_len)
 {
-    return freelist_code(freelist_run(W, H, weights, 2 * CELLS, table, 8 * slots, requests, requests_len, answers, answers_len));
+    return freelist_code(freelist_run(columns, rows, weights, 2 * columns * rows, table, 8 * slots, requests, requests_len, answers, answers_len));
 }
 
 static unsigned list(uint64_t room_len)
@@ -41,12 +41,16 @@ static unsigned list(uint64_t room_len)
     return freelist_code(freelist_list(W, H, weights, 2 * CELLS, table, 8 * slots, room, room_len));
 }
 
-/* A cleared surface with a table of n slots. */
-static void anew(uint64_t n)
+/* A cleared surface of this size with a table of n slots; mostly of W and H. */
+static void anew_of(uint64_t w, uint64_t h, uint64_t n)
 {
+    columns = w;
+    rows = h;
     slots = n;
-    is("a cleared surface", clear(W, H, 2 * CELLS, 8 * n), 0);
+    is("a cleared surface", clear(w, h, 2 * w * h, 8 * n), 0);
 }
+
+static void anew(uint64_t n) { anew_of(W, H, n); }
 
 /* The code of one request. */
 static unsigned ask(int op, int rule, int id, int w, int h, int a, int b)
@@ -152,7 +156,8 @@ static void places(void)
     is("pin on it", ask(3, 0, 2, 1, 1, 2, 0), 21);
     is("pin below it", ask(3, 0, 2, 1, 1, 2, 1), 0);
     is("a third module of two slots", ask(1, 0, 3, 1, 1, 0, 0), 19);
-    is("exchange with a full table", ask(4, 0, 2, 3, 1, 0, 0), 0);
+    is("exchange over an old cell, full table", ask(4, 0, 2, 3, 1, 0, 0), 20);
+    is("exchange beside the old cell, full table", ask(4, 0, 2, 2, 1, 0, 0), 0);
     is("exchange for one too high", ask(4, 0, 2, 1, 2, 0, 0), 20);
     anew(3);
     is("place 200x1", ask(1, 0, 1, 200, 1, 0, 0), 20);
@@ -235,16 +240,119 @@ static void hards(void)
     is("exchange of a module to 200x1", ask(4, 0, 6, 200, 1, 0, 0), 20);
     is("exchange of a module over the block", ask(4, 0, 6, 2, 1, 0, 0), 20);
     is("exchange of a module beside the block", ask(4, 0, 6, 1, 2, 0, 0), 0);
-    slot_is("its slot", 1, 6, 0, 0, 1, 2, 0);
+    slot_is("its slot", 1, 6, 2, 0, 1, 2, 0);
     is("place under the id of a block", ask(1, 0, 5, 1, 1, 0, 0), 15);
     is("pin under the id of a block", ask(3, 0, 5, 1, 1, 2, 0), 15);
     is("set under the id of a block", ask(6, 0, 5, 1, 1, 2, 0), 15);
     is("place beside the block", ask(1, 0, 7, 1, 2, 0, 0), 0);
-    slot_is("the slot of id 7", 2, 7, 2, 0, 1, 2, 0);
+    slot_is("the slot of id 7", 2, 7, 0, 0, 1, 2, 0);
     is("remove of a module beside the block", ask(2, 0, 6, 0, 0, 0, 0), 0);
     is("remove of the module on its other side", ask(2, 0, 7, 0, 0, 0, 0), 0);
     slot_is("the block's slot", 0, 5, 1, 0, 1, 2, 1);
     is("remove of the block once more", ask(2, 0, 5, 0, 0, 0, 0), 23);
+}
+
+/* Whether the weights are these, row by row. */
+static void weights_are(const char *what, const int *expected)
+{
+    int same = 1;
+    for (uint64_t i = 0; i < columns * rows; i++)
+        same &= (int16_t)(uint16_t)(weights[2 * i] | weights[2 * i + 1] << 8) == expected[i];
+    is(what, (unsigned)same, 1);
+}
+#define WEIGHTS_ARE(what, ...) weights_are(what, (const int[]){ __VA_ARGS__ })
+
+/* "the new one may not cover a single old cell" (order 3): each would have a place without the old
+ * module, and beside it stands one that has a place with it. */
+static void old_in_its_place(int rule)
+{
+    anew_of(3, 3, 2);
+    is("D", ask(3, 0, 7, 1, 1, 1, 1), 0);
+    is("G", ask(4, rule, 7, 2, 2, 0, 0), 20);
+    is("D, exchange for all of it", ask(4, rule, 7, 3, 3, 0, 0), 20);
+    is("D, exchange for two columns", ask(4, rule, 7, 2, 3, 0, 0), 20);
+    is("D, exchange for two rows", ask(4, rule, 7, 3, 2, 0, 0), 20);
+    is("H", ask(4, rule, 7, 4, 1, 0, 0), 20);
+    slot_is("D, refused", 0, 7, 1, 1, 1, 1, 0);
+    WEIGHTS_ARE("D, refused: weights", 1, 1, 1, 2, -1, 2, 3, 1, 3);
+    is("D, exchange for a row", ask(4, rule, 7, 3, 1, 0, 0), 0);
+    slot_is("a row", 0, 7, 0, rule == 2 ? 2 : 0, 3, 1, 0);
+    slot_is("one record", 1, 0, 0, 0, 0, 0, 0);
+    is("the two other rows", ask(4, rule, 7, 3, 2, 0, 0), 0);
+    slot_is("the two rows", 0, 7, 0, rule == 2 ? 0 : 1, 3, 2, 0);
+    is("two rows again", ask(4, rule, 7, 3, 2, 0, 0), 20);
+    is("the surface stands", check(), 0);
+}
+
+/* "the old one goes when the new one stands" (order 3): to and fro on a surface of 3x1, and of the
+ * same size; with one slot, so that none is free. */
+static void old_gone(int rule)
+{
+    anew_of(3, 1, 1);
+    is("pin id 1", ask(3, 0, 1, 1, 1, 0, 0), 0);
+    is("exchange for one of the same size", ask(4, rule, 1, 1, 1, 0, 0), 0);
+    answer_is("it moves", 4, 1, 1, 0, 1, 1);
+    WEIGHTS_ARE("it has moved", 1, -1, 1);
+    is("exchange for two cells, one on each side", ask(4, rule, 1, 2, 1, 0, 0), 20);
+    is("exchange for one of the same size", ask(4, rule, 1, 1, 1, 0, 0), 0);
+    WEIGHTS_ARE("it has moved back", -1, 1, 1);
+    is("exchange for the two cells beside it", ask(4, rule, 1, 2, 1, 0, 0), 0);
+    answer_is("beside its old place", 4, 1, 1, 0, 2, 1);
+    slot_is("in its slot", 0, 1, 1, 0, 2, 1, 0);
+    WEIGHTS_ARE("the old cell is empty", 1, -2, -1);
+    is("exchange for one of the same size, no room", ask(4, rule, 1, 2, 1, 0, 0), 20);
+    is("a place, no free slot", ask(1, rule, 2, 1, 1, 0, 0), 19);
+    is("an exchange, no free slot", ask(4, rule, 1, 1, 1, 0, 0), 0);
+    answer_is("at the old place", 4, 1, 0, 0, 1, 1);
+    is("remove", ask(2, 0, 1, 0, 0, 0, 0), 0);
+    is("the whole row", ask(1, rule, 1, 3, 1, 0, 0), 0);
+    is("exchange on a full surface", ask(4, rule, 1, 1, 1, 0, 0), 20);
+    is("to its own size", ask(4, rule, 1, 3, 1, 0, 0), 20);
+    WEIGHTS_ARE("the whole row stays", -3, -2, -1);
+}
+
+/* The entries of 5x3 with a block in column 2 and module 513, 1x1, at (0,2): (0,0,2,2), (1,0,1,3),
+ * (3,0,2,3). Without module 513: (0,0,2,3) and (3,0,2,3), so the old place by every rule, and (3,2)
+ * where the entry that it lies in is passed over. Slot 0 is free. */
+static void list_with_the_old(int rule)
+{
+    anew_of(5, 3, 3);
+    is("pin id 8", ask(3, 0, 8, 1, 1, 4, 0), 0);
+    is("pin id 513", ask(3, 0, 513, 1, 1, 0, 2), 0);
+    is("a block", ask(6, 0, 9, 1, 3, 2, 0), 0);
+    is("remove id 8", ask(2, 0, 8, 0, 0, 0, 0), 0);
+    is("exchange for one of the same size", ask(4, rule, 513, 1, 1, 0, 0), 0);
+    answer_is("by the rule", 4, 513, rule == 0 ? 0 : 1, rule == 0 ? 1 : 2, 1, 1);
+    slot_is("in its slot", 1, 513, rule == 0 ? 0 : 1, rule == 0 ? 1 : 2, 1, 1, 0);
+    slot_is("the free slot", 0, 0, 0, 0, 0, 0, 0);
+    slot_is("the block's slot", 2, 9, 2, 0, 1, 3, 1);
+    if (rule == 0)
+        WEIGHTS_ARE("above the old cell", 1, 1, -1, 1, 1, -1, 2, -1, 2, 2, 1, 3, -1, 3, 3);
+    else
+        WEIGHTS_ARE("beside the old cell", 1, 1, -1, 1, 1, 2, 2, -1, 2, 2, 3, -1, -1, 3, 3);
+    is("exchange for what is beside the block", ask(4, rule, 513, 2, 3, 0, 0), 0);
+    answer_is("there", 4, 513, 3, 0, 2, 3);
+    WEIGHTS_ARE("it stands there", 1, 1, -1, -2, -1, 2, 2, -1, -2, -1, 3, 3, -1, -2, -1);
+    is("its kind: remove", ask(2, 0, 513, 0, 0, 0, 0), 0);
+}
+
+/* "the weights from the module's top row down to the next occupied cell below it": of the old module
+ * and of the new, which have column 0 in common, with another below both in column 1. */
+static void weights_below(void)
+{
+    anew_of(2, 6, 3);
+    is("pin id 1", ask(3, 0, 1, 2, 1, 0, 1), 0);
+    is("pin id 2", ask(3, 0, 2, 1, 1, 1, 4), 0);
+    WEIGHTS_ARE("before", 1, 1, -2, -1, 1, 1, 2, 2, 3, -1, 4, 1);
+    is("exchange for one below it", ask(4, 0, 1, 1, 3, 0, 0), 0);
+    answer_is("below it", 4, 1, 0, 3, 1, 3);
+    WEIGHTS_ARE("counted on from above", 1, 1, 2, 2, 3, 3, -1, 4, -1, -1, -1, 1);
+    is("exchange for one above it", ask(4, 0, 1, 2, 2, 0, 0), 0);
+    answer_is("above it", 4, 1, 0, 1, 2, 2);
+    WEIGHTS_ARE("counted anew below", 1, 1, -2, -1, -2, -1, 1, 1, 2, -1, 3, 1);
+    is("exchange for two rows", ask(4, 2, 1, 2, 2, 0, 0), 20);
+    is("exchange for the last row", ask(4, 2, 1, 2, 1, 0, 0), 0);
+    WEIGHTS_ARE("counted on to the next", 1, 1, 2, 2, 3, 3, 4, 4, 5, -1, -2, -1);
 }
 
 /* The code of a check with these bytes 6 and 7 in slot n, put back afterwards. */
@@ -296,6 +404,12 @@ int main(void)
     places();
     sets();
     hards();
+    for (int rule = 0; rule < 3; rule++) {
+        old_in_its_place(rule);
+        old_gone(rule);
+        list_with_the_old(rule);
+    }
+    weights_below();
     kinds();
     printf("beside: %d cases, %d wrong\n", cases, wrong);
     return wrong != 0;

@@ -31,6 +31,18 @@ static unsigned some_id(void)
     return one_in(30) ? 0 : one_in(30) ? below(65536) : one_in(8) ? 256 * from_to(1, 5) : from_to(1, 5);
 }
 
+/* The id of a module, or block, where one of four slots drawn has one. */
+static unsigned placed_id(void)
+{
+    const struct bytes *t = &on->lent[TABLE];
+    for (unsigned tries = 0; tries < 4; tries++) {
+        const uint8_t *s = t->byte + 8 * below((unsigned)t->len / 8);
+        if (is_used(s))
+            return s[0] + 256u * s[1];
+    }
+    return some_id();
+}
+
 static unsigned some_side(uint64_t limit)
 {
     unsigned n = (unsigned)limit;
@@ -87,7 +99,7 @@ static void add_wrapping_pin(void)
 
 static void add_exchange(void)
 {
-    unsigned rule = some_rule(), id = some_id(), w = some_side(on->w), h = some_side(on->h);
+    unsigned rule = some_rule(), id = placed_id(), w = some_side(on->w), h = some_side(on->h);
     unsigned b6 = some_zero(), b7 = some_zero();
     add(4, rule, id, w, h, b6, b7);
 }
@@ -96,16 +108,18 @@ static void add_exchange(void)
  * then removed" */
 static void add_exchanges(void)
 {
-    unsigned id = some_id(), w = some_side(on->w), h = some_side(on->h), rule = below(3);
+    unsigned id = one_in(2) ? some_id() : placed_id(), rule = below(3);
+    unsigned w = from_to(1, (unsigned)on->w / 4 + 1), h = from_to(1, (unsigned)on->h / 4 + 1);
     unsigned W = (unsigned)on->w, H = (unsigned)on->h;
     add(1, rule, id, w, h, 0, 0);
     for (unsigned n = from_to(1, 5); n > 0; n--) {
-        w += below(3);
-        h += below(3);
         add(4, rule, id, w, h, 0, 0);
-        add(4, rule, id, W + below(2), H, 0, 0);
+        if (one_in(2))
+            add(4, rule, id, W + below(2), H, 0, 0);
         if (one_in(2))
             add(4, below(3), id, w, h, 0, 0);
+        w += below(2);
+        h += below(2);
     }
     if (one_in(3))
         add(4, rule, id, 1, 1, 0, 0);
@@ -113,6 +127,22 @@ static void add_exchanges(void)
         add(2, 0, id, 0, 0, 0, 0);
     if (one_in(3))
         add(4, rule, id, 1, 1, 0, 0);
+}
+
+/* "the new one may not cover a single old cell" (order 3): a module in the columns of
+ * the surface to the left, or in its lower rows, as far as others leave them to it,
+ * then one that fills the rest, or has one column or row too many, to and fro. */
+static void add_across(void)
+{
+    unsigned id = some_id(), rule = below(3), lying = below(2), W = (unsigned)on->w, H = (unsigned)on->h;
+    unsigned w = lying ? W : from_to(1, W), h = lying ? from_to(1, H) : H;
+    add(1, rule, id, w, h, 0, 0);
+    for (unsigned n = from_to(1, 3); n > 0; n--) {
+        unsigned more = one_in(3) ? 1 : 0;
+        add(4, rule, id, lying ? W : W - w + more, lying ? H - h + more : H, 0, 0);
+        add(4, below(3), id, w, h, 0, 0);
+    }
+    add(2, 0, id, 0, 0, 0, 0);
 }
 
 /* A block of the fabric asked away in vain, and asked for again. */
@@ -143,7 +173,7 @@ static void add_many(void)
 
 static void add_some(void)
 {
-    switch (below(18)) {
+    switch (below(19)) {
     case 0: add_any(); break;
     case 1: case 2: case 3: add_remove(); break;
     case 4: case 5: case 6: add_pin(); break;
@@ -153,6 +183,7 @@ static void add_some(void)
     case 12: add_wrapping_pin(); break;
     case 13: add_set(); break;
     case 14: add_at_hard(); break;
+    case 15: add_across(); break;
     default: add_place(); break;
     }
 }
@@ -233,6 +264,25 @@ static void in_blocks(const struct call_case *start, unsigned n, unsigned size, 
     }
 }
 
+struct exchanges exchanged;
+
+/* The history one request at a time, with its exchanges counted. */
+static void one_by_one(const struct call_case *start, unsigned n, struct call_case *end)
+{
+    static struct bytes weights, table;
+    const struct bytes *lent = end->lent;
+    *end = *start;
+    for (unsigned at = 0; at < n; at++) {
+        set_bytes(&weights, lent[WEIGHTS].byte, lent[WEIGHTS].len);
+        set_bytes(&table, lent[TABLE].byte, lent[TABLE].len);
+        run_block(end, at, 8, 8);
+        struct loans before = { .w = end->w, .h = end->h,
+                                .at = { [WEIGHTS] = weights.byte, [TABLE] = table.byte },
+                                .len = { [WEIGHTS] = weights.len, [TABLE] = table.len } };
+        count_exchange(&exchanged, &before, requests + 8 * at, lent[ANSWERS].byte);
+    }
+}
+
 static int same_surface(const struct call_case *a, const struct call_case *b)
 {
     return memcmp(a->lent[WEIGHTS].byte, b->lent[WEIGHTS].byte, a->lent[WEIGHTS].len) == 0
@@ -256,7 +306,7 @@ void history(struct call_case *c)
     static struct call_case one, whole, cut;
     unsigned n = from_to(1, one_in(6) ? 120 : 30);
     draw_requests(c, n);
-    in_blocks(c, n, 1, &one);
+    one_by_one(c, n, &one);
     in_blocks(c, n, n, &whole);
     in_blocks(c, n, 0, &cut);
     if (!same_surface(&one, &whole) || !same_surface(&one, &cut)) {
@@ -286,7 +336,7 @@ static const uint8_t aimed[][9] = {
     { 2, 0, 1, 0, 0, 0, 0, 0, 0 }, { 3, 0, 2, 0, 1, 1, 1, 1, 21 }, { 3, 0, 2, 0, 3, 1, 0, 0, 0 },
     { 4, 0, 7, 0, 1, 1, 0, 1, 12 }, { 4, 3, 7, 0, 1, 1, 0, 0, 13 }, { 4, 0, 0, 0, 1, 1, 0, 0, 14 },
     { 4, 0, 9, 0, 1, 1, 0, 0, 16 }, { 4, 0, 7, 0, 0, 1, 0, 0, 17 }, { 4, 0, 7, 0, 4, 1, 0, 0, 20 },
-    { 4, 2, 7, 0, 3, 2, 0, 0, 0 }, { 2, 0, 7, 0, 0, 0, 0, 0, 0 },
+    { 4, 2, 7, 0, 3, 2, 0, 0, 20 }, { 4, 2, 7, 0, 3, 1, 0, 0, 0 }, { 2, 0, 7, 0, 0, 0, 0, 0, 0 },
     { 6, 1, 3, 0, 1, 1, 0, 1, 12 }, { 6, 0, 0, 0, 1, 1, 0, 1, 14 }, { 6, 0, 2, 0, 1, 1, 0, 1, 15 },
     { 6, 0, 3, 0, 0, 1, 0, 1, 17 }, { 6, 0, 3, 0, 1, 0, 0, 1, 17 }, { 6, 0, 3, 0, 3, 1, 1, 1, 18 },
     { 6, 0, 3, 0, 1, 3, 0, 1, 18 }, { 6, 0, 3, 0, 1, 1, 1, 0, 21 }, { 6, 0, 3, 0, 2, 1, 1, 1, 0 },
@@ -295,7 +345,8 @@ static const uint8_t aimed[][9] = {
     { 4, 0, 3, 0, 1, 1, 0, 1, 12 }, { 4, 3, 3, 0, 1, 1, 0, 0, 13 }, { 4, 0, 4, 0, 0, 0, 0, 0, 16 },
     { 4, 0, 3, 0, 1, 1, 0, 0, 23 }, { 4, 2, 3, 0, 2, 1, 0, 0, 23 }, { 4, 0, 3, 0, 0, 0, 0, 0, 23 },
     { 4, 1, 3, 0, 0, 1, 0, 0, 23 }, { 4, 0, 3, 0, 1, 0, 0, 0, 23 }, { 4, 0, 3, 0, 4, 1, 0, 0, 23 },
-    { 4, 0, 2, 0, 0, 0, 0, 0, 17 }, { 4, 0, 2, 0, 2, 2, 0, 0, 20 }, { 4, 0, 2, 0, 1, 3, 0, 0, 0 },
+    { 4, 0, 2, 0, 0, 0, 0, 0, 17 }, { 4, 0, 2, 0, 2, 2, 0, 0, 20 }, { 4, 0, 2, 0, 1, 3, 0, 0, 20 },
+    { 4, 0, 2, 0, 1, 2, 0, 0, 0 },
     { 1, 0, 3, 0, 1, 1, 0, 0, 15 }, { 3, 0, 3, 0, 1, 1, 1, 0, 15 }, { 6, 0, 3, 0, 2, 1, 1, 1, 15 },
     { 2, 0, 2, 0, 0, 0, 0, 0, 0 }, { 3, 0, 4, 0, 1, 1, 2, 1, 21 }, { 2, 0, 3, 0, 0, 0, 0, 0, 23 } };
 

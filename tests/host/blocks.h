@@ -3,6 +3,7 @@
 #ifndef BLOCKS_H
 #define BLOCKS_H
 
+#include "../exchanges.h"
 #include "lending.h"
 
 /* A block on the case's surface, whether it stands or not. */
@@ -18,6 +19,9 @@ void block_edges(struct call_case *c);
 
 /* A history on the case's surface. */
 void history(struct call_case *c);
+
+/* The exchanges of all histories. */
+extern struct exchanges exchanged;
 
 /* A block that gives each code of each operation. */
 void every_request_code(struct call_case *c);

@@ -130,8 +130,16 @@ static void report(const struct call_case *before, const struct call_case *after
         }
 }
 
-/* A buffer lent for reading, and every buffer of a call to be refused, stands
- * on pages without write access where pages are used. */
+/* Where pages are used, some of them are without write access: those of a buffer lent
+ * for reading, of every buffer of a call to be refused, and of weights and table for
+ * a block of which no request is accepted: "A refused request changes neither". */
+static int is_read_only(const struct call_case *c, unsigned buffer, uint64_t expected)
+{
+    if (!may_write(c->call, buffer) || part_of(expected, 0) != 0)
+        return 1;
+    return c->call == RUN && part_of(expected, 1) == 0 && (buffer == WEIGHTS || buffer == TABLE);
+}
+
 static uint64_t ask_library(const struct call_case *c, uint64_t expected, uint8_t *p[BUFFERS])
 {
     unsigned way = below(4);
@@ -139,7 +147,7 @@ static uint64_t ask_library(const struct call_case *c, uint64_t expected, uint8_
     ways[way]++;
     for (unsigned i = 0; i < BUFFERS; i++)
         if (is_lent(c->call, i))
-            p[i] = lend(i, &c->lent[i], way, !may_write(c->call, i) || part_of(expected, 0) != 0);
+            p[i] = lend(i, &c->lent[i], way, is_read_only(c, i, expected));
     struct loans l = loans_of(c, p);
     current = c;
     uint64_t given = on_freelist(c->call, &l);

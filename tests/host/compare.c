@@ -5,8 +5,9 @@
  *   compare all34                every way to lay modules on 3x4 and on 4x3
  *
  * Exit status 0 when no case differs, every code was given that may be, and no
- * other, some list filled a room of W entries for each scanned row, and each shape
- * had blocks of the fabric. */
+ * other, some list filled a room of W entries for each scanned row, each shape had
+ * blocks of the fabric, and exchanges were accepted beside the old module and refused
+ * for it alone (order 3). */
 #include "all34.h"
 #include "blocks.h"
 #include "both.h"
@@ -143,7 +144,8 @@ static int rounds(uint64_t seed, unsigned long scale)
         round_of(i);
     printf("seed %llu, %lu rounds\n", (unsigned long long)seed, scale);
     print_kinds();
-    int is_whole = codes_amiss() == 0;
+    print_exchanges(&exchanged);
+    int is_whole = codes_amiss() == 0 && exchanges_came_up(&exchanged);
     return end(each_shape_had_hard() && is_whole);
 }
 

@@ -12,7 +12,7 @@ build=${2:?the directory}
 scale=80
 seeds="1 2 3"
 flags="-std=c11 -O2 -Wall -Wextra -pedantic -Werror -I$here/../brute"
-brute="$here/../brute/brute.c $here/../table.c"
+brute="$here/../brute/brute.c $here/../table.c $here/../exchanges.c"
 mkdir -p "$build"
 
 $nm "$archive" | grep -q ' T freelist_run$' || { echo "run.sh: the archive has no freelist_run"; exit 1; }
@@ -24,7 +24,7 @@ for part in compare all34 blocks both calls damage lending numbers surfaces; do
     sources="$sources $here/$part.c"
 done
 $cc $flags -o "$build/compare" $sources $brute "$archive"
-for alone in beside put_back; do
+for alone in beside unwritten; do
     $cc $flags -o "$build/$alone" "$here/$alone.c" "$archive"
 done
 $cc $flags -o "$build/wrong_inner_only" "$here/wrong_inner_only.c" "$here/surfaces.c" "$here/numbers.c" $brute "$archive"
@@ -32,7 +32,7 @@ $cc $flags -o "$build/wrong_inner_only" "$here/wrong_inner_only.c" "$here/surfac
 echo "-- each code given, and withheld just beside"
 $start "$build/beside"
 echo "-- refused requests on pages that cannot be written"
-$start "$build/put_back"
+$start "$build/unwritten"
 for seed in $seeds; do
     echo "-- compare, seed $seed, scale $scale"
     $start "$build/compare" "$seed" "$scale"

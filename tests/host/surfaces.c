@@ -239,12 +239,13 @@ static void single_cells(void)
         pin_somewhere(1, 1);
 }
 
-/* Modules also removed and exchanged, so that slots are used again. */
+/* Modules also removed and exchanged, so that slots are used again; exchanged for
+ * small ones, as beside the old module there is less room (order 3). */
 static void mixed_history(void)
 {
     for (unsigned n = from_to(4, is_large() ? 20 : 30); n > 0; n--) {
         unsigned old = (id_step * from_to(1, 8)) % 65536, rule = below(3);
-        unsigned w = from_to(1, W / 2 + 1), h = from_to(1, H / 2 + 1), kind = below(5);
+        unsigned w = from_to(1, W / 4 + 1), h = from_to(1, H / 4 + 1), kind = below(5);
         if (kind == 0)
             ask(2, 0, old, 0, 0, 0, 0);
         else if (kind == 1)

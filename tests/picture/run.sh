@@ -84,7 +84,7 @@ edited() {
 mkdir -p "$work" || exit 1
 gcc $flags -o "$work/picture" "$root"/tools/picture/*.c || exit 1
 gcc $flags -g -fsanitize=address,undefined -fno-sanitize-recover=all -o "$work/checked" "$root"/tools/picture/*.c || exit 1
-gcc $flags -o "$work/generate" "$root/tests/brute/generate.c" "$root/tests/brute/brute.c" "$root/tests/table.c" || exit 1
+gcc $flags -o "$work/generate" "$root/tests/brute/generate.c" "$root/tests/brute/brute.c" "$root/tests/table.c" "$root/tests/exchanges.c" || exit 1
 
 # The example and the stored drawings.
 sh "$root/tools/picture/bytes.sh" <"$root/tools/picture/example.hex" >"$work/example"
@@ -106,7 +106,7 @@ grep -q '^    2  a a . +  <$' "$work/drawing.text" || fail "the program's stored
 : >"$work/in"
 draws "no input"
 grep -q '^no surface' "$work/drawing.text" && grep -q 'no surface' "$work/drawing.svg" || fail "no surface is not said"
-for bytes in 1 7 8 9 15 16 17 95; do
+for bytes in 1 7 8 9 15 16 17 103; do
     dd if="$work/example" of="$work/in" bs=1 count=$bytes 2>/dev/null
     draws "the example cut to $bytes bytes"
 done
@@ -145,6 +145,8 @@ done <"$work/figures"
 edited 's/^0 1 5 8 0 4 2$/0 1 5 0 0 4 2/'      # another free place
 edited 's/^0 1 4 4 6 3 2$/0 1 4 3 6 3 2/'      # an occupied cell
 edited 's/^0 4 2 7 7 5 1$/0 4 2 8 7 5 1/'      # off the surface
+edited 's/^0 4 2 7 7 5 1$/0 4 2 0 1 5 1/'      # exchanged onto cells of the old one
+edited 's/^20 4 300 0 0 0 0$/0 4 300 0 0 6 6/' # the same, where the exchange was refused
 edited 's/^0 3 3 6 1 2 2$/0 3 3 8 1 2 2/'      # not where it was pinned
 edited 's/^0 2 1 0 5 4 3$/0 2 9 0 5 4 3/'      # another id removed
 edited 's/^0 1 5 8 0 4 2$/20 1 5 0 0 0 0/'     # refused
@@ -216,6 +218,21 @@ unfit 'place is (0,1)' "$clear $hard" "0 5 0 0 0 2 2,0 6 1 1 1 1 1,m 0 0 2 1 2,m
 unfit 'size is 1x1' "$clear $hard" '0 5 0 0 0 2 2,0 6 1 0 1 2 1,m 0 0 2 1 2,corners 1 list 1'
 unfit 'not on the surface' "$hard" '0 6 1 0 1 1 1,corners 0 list 0'
 
+# An exchange: the old module is in its place, and no cell of the new one is one of its own. It goes when the new one stands.
+stood='0 5 0 0 0 2 2,0 1 1 0 1 1 1'
+small='04 00 01 00 01 01 00 00'
+moved="$stood,0 4 1 0 0 1 1"
+unfit 'occupied by id 1' "$clear $one $small" "$stood,0 4 1 0 1 1 1,$left"
+unfit 'occupied by id 1' "$clear $one 04 00 01 00 02 01 00 00" "$stood,0 4 1 0 1 2 1,m 0 0 2 1 2,corners 1 list 1"
+unfit 'occupied by id 1' "$clear $one 04 00 01 00 02 02 00 00" "$stood,0 4 1 0 0 2 2,corners 0 list 0"
+unfit 'occupied by id 1' "$clear 01 00 01 00 02 02 00 00 $small" "0 5 0 0 0 2 2,0 1 1 0 0 2 2,0 4 1 0 1 1 1,$left"
+unfit 'occupied by id 1' "$clear $one $small $small" "$moved,0 4 1 0 0 1 1,m 0 1 2 1 2,m 1 0 1 2 2,corners 1 list 2"
+unfit 'occupied by id 2' "$clear $one 01 00 02 00 01 01 00 00 $small" "$stood,0 1 2 0 0 1 1,0 4 1 0 0 1 1,m 0 1 2 1 2,m 1 0 1 2 2,corners 1 list 2"
+unfit 'not on the surface' "$clear $one 04 00 01 00 01 02 00 00" "$stood,0 4 1 1 1 1 2,m 0 0 2 1 2,m 0 0 1 2 2,corners 2 list 2"
+unfit 'id 1 stands at 0 0 1 1' "$clear $one $small 02 00 01 00 00 00 00 00" "$moved,0 2 1 0 1 1 1,m 0 0 2 2 4,corners 1 list 1"
+unfit 'id 1 is not placed' "$clear $one 02 00 01 00 00 00 00 00 $small" "$stood,0 2 1 0 1 1 1,0 4 1 0 0 1 1,m 0 1 2 1 2,m 1 0 1 2 2,corners 1 list 2"
+unfit 'a cell of the entry is occupied' "$clear $one $small" "$moved,m 0 0 2 1 2,m 1 0 1 2 2,corners 2 list 2"
+
 # What the program leaves after these records, in hex.
 leaves() {
     echo "$2" | sh "$root/tools/picture/bytes.sh" >"$work/in" || fail "$1: no input"
@@ -227,6 +244,13 @@ grep -q '^    1  @ +  <$' "$work/drawing.text" && grep -q '^    0  b + ' "$work/
 grep -q '^  @  id 1 at (0,1), 1x1, slot 0$' "$work/drawing.text" && grep -q '^modules: 1$' "$work/drawing.text" || fail "a block and a module: the legend"
 [ "$(grep -c '^23 [24] 1 0 0 0 0$' "$work/out")" -eq 2 ] || fail "a block and a module: no 23"
 grep -q '^<path stroke="#6e7681"' "$work/drawing.svg" && grep -q '>blocks: 1<' "$work/drawing.svg" || fail "a block and a module: as SVG"
+leaves 'a module exchanged, its old cell used again' "$clear $one $small 01 02 02 00 01 01 00 00"
+grep -q '^0 4 1 0 0 1 1$' "$work/out" && grep -q '^0 1 2 0 1 1 1$' "$work/out" || fail "a module exchanged: the answers"
+grep -q '^  a  id 1 at (0,0), 1x1, slot 0$' "$work/drawing.text" && grep -q '^  b  id 2 at (0,1), 1x1, slot 1$' "$work/drawing.text" || fail "a module exchanged: the legend"
+leaves 'a module exchanged and back' "$clear $one $small $small"
+grep -q '^0 4 1 0 0 1 1$' "$work/out" && grep -q '^  a  id 1 at (0,1), 1x1, slot 0$' "$work/drawing.text" || fail "a module exchanged and back"
+leaves 'an exchange refused' "$clear $one 04 00 01 00 02 02 00 00"
+grep -q '^20 4 1 0 0 0 0$' "$work/out" && grep -q '^  a  id 1 at (0,1), 1x1, slot 0$' "$work/drawing.text" || fail "an exchange refused"
 leaves 'a block cleared' "$clear $hard $clear"
 grep -q '^blocks: 0$' "$work/drawing.text" || fail "a block cleared: it is drawn"
 leaves 'operation 6 before a clear' "$hard"
@@ -248,7 +272,7 @@ grep -q 'no slot is free' "$work/message" || fail "257 modules: refused for anot
 for seed in 1 2 3 4 5 6 7 8 9 10; do
     "$work/generate" stream garbage $seed 50 >"$work/tampered"
     refuses "bytes $seed"
-    { head -n 12 "$work/example.out"; cat "$work/tampered"; } >"$work/longer" && mv "$work/longer" "$work/tampered"
+    { head -n 13 "$work/example.out"; cat "$work/tampered"; } >"$work/longer" && mv "$work/longer" "$work/tampered"
     refuses "bytes $seed after the answers"
 done
 

@@ -157,14 +157,12 @@ static bool replay_place(const struct reading *r, struct surface *s, const struc
     return stand(r, s, slot, a);
 }
 
-/* "Exchange is judged on the surface without the old module and keeps its slot". */
+/* "Exchange is now judged with the old module in its place, and the old one goes when the new one stands" (order 3); it
+ * keeps its slot. */
 static bool replay_exchange(const struct reading *r, struct surface *s, const struct answer *a)
 {
     struct module *slot = find_module(r, s, a->id);
-    if (slot == NULL)
-        return false;
-    memset(slot, 0, sizeof *slot);
-    return stand(r, s, slot, a);
+    return slot != NULL && stand(r, s, slot, a);
 }
 
 static bool replay_accepted(const struct reading *r, struct surface *s, const struct answer *a, const unsigned char *record)

@@ -3,7 +3,7 @@
 -- lends of a surface, the bytes of its weights and its table; r is the number returned; a prime marks what a buffer holds afterwards. A RunCall c is a call of run: what it was lent, returned
 -- and left, and its contract (demands/specs/Chain). The proofs stand in the files that the `use` lines name. No axiom is used.
 use mathlib.Core.Path.{_≡_}
-use mathlib.Core.Bool.{true, false, not, cond, _&&_}
+use mathlib.Core.Bool.{true, false, not, cond}
 use mathlib.Core.Logic.{_↔_}
 use mathlib.Core.List.{List, _∷_, _++_, List·Memᴰ}
 use mathlib.Core.Option.{some}
@@ -14,7 +14,7 @@ use Rattle.rules.specs.Tests.{count, all}
 use Rattle.rules.specs.Surface.{Standing, rect, covers, slots, rectOf, kindOf, freeSlot, recordOf, freeRecord, withRecord, occupied, cell, fresh, usedSlots}
 use Rattle.rules.specs.Empties.{Empty, scanned, scannedRows}
 use Rattle.rules.specs.Judging.{FirstThat}
-use Rattle.rules.specs.Requests.{idLow, idHigh, idAsked, ruleOf, wide, high, byRule, isPlace, isRemove, isExchange, isSet, atPlace, makesNew, needsOld, kindAsked, idPlaced, slotOf, lowestFree, pinned, ground, rulePlace, judging, stepOf, answerOf}
+use Rattle.rules.specs.Requests.{idLow, idHigh, idAsked, ruleOf, wide, high, byRule, isRemove, isExchange, isSet, atPlace, makesNew, needsOld, kindAsked, idPlaced, slotOf, lowestFree, pinned, rulePlace, judging, stepOf, answerOf}
 use Rattle.rules.specs.Place.{pinLines}
 use Rattle.rules.specs.Blocks.{requests, request}
 use Rattle.rules.specs.Calls.{badBlock, clearLines, checkLines, runLines, listLines, resultOf, codeOfResult, firstOfResult, secondOfResult}
@@ -28,7 +28,6 @@ use Rattle.demands.specs.Listed.{HoldsList, bottomIn}
 use Rattle.demands.specs.Chain.{RunCall, NotRefused, asked, answered, upTo, joined, ones, Chain, ChainOver, Onward}
 use Rattle.demands.specs.Chain.Chain.{cleared}
 use Rattle.demands.proofs.Calls as K
-use Rattle.demands.proofs.Refusals as R
 use Rattle.demands.proofs.Answered as A
 use Rattle.demands.proofs.Chains as C
 use Rattle.demands.proofs.Single as S
@@ -115,31 +114,21 @@ accepted-at-most W H c = accepted-few W H (c .block) (weightsIn (c .lent)) (c .l
 pub list-holds : (W H : ℕ) (l : LentSurface) (room : List ℕ) {r : ℕ} {room′ : List ℕ} → HostListedBy W H l room r room′ → codeOfResult r ≡ 0 → HoldsList W H l room r room′
 list-holds = L.holds-list
 
--- ---- "A sound request by rule, with a free slot where it needs one, is refused exactly when no position on the surface has all its cells empty (for an exchange, the old module taken away)":
--- request k of a block, refused with any code
+-- ---- "A sound request by rule, with a free slot where it needs one, is refused exactly when no position on the surface has all its cells empty": request k of a block, refused with any code. Place and
+-- exchange alike: order 3, "In demand 2 'no position' is read with the old module counted as occupied" (`old-counted`)
 
 pub request-refused-exactly : (W H : ℕ) (c : RunCall W H) → NotRefused c → (k : ℕ) → k < requests (c .block) →
     let t = upTo c k .table in
     let q = asked c k in
     Sound t q → byRule q ≡ true → SlotForIt t q →
-    (codeIn (answered c k) ≡ 0 → ⊥) ↔ ((x y : ℕ) → Empty (occupied (ground t q)) W H (rect x y (wide q) (high q)) → ⊥)
+    (codeIn (answered c k) ≡ 0 → ⊥) ↔ ((x y : ℕ) → Empty (occupied t) W H (rect x y (wide q) (high q)) → ⊥)
 request-refused-exactly W H = A.answer-refused-exactly
-
--- a place is judged on the surface as it stands; an exchange's without the cells of the old module
-pub judged-as-it-stands : (t q : List ℕ) → isPlace q ≡ true → ground t q ≡ t
-judged-as-it-stands = R.ground-place
-
-pub judged-without-the-old : (W H : ℕ) (c : RunCall W H) → NotRefused c → (k : ℕ) → k < requests (c .block) →
-    let t = upTo c k .table in
-    let q = asked c k in
-    Sound t q → isExchange q ≡ true → (x y : ℕ) → occupied (ground t q) x y ≡ (occupied t x y && not (covers (rectOf t (slotOf t (idAsked q))) x y))
-judged-without-the-old W H = A.answer-ground
 
 -- ---- "an accepted module stands where its rule or pin says": where the answer says, and the table has it there
 
 pub stands-by-rule : (W H : ℕ) (c : RunCall W H) → NotRefused c → (k : ℕ) → k < requests (c .block) → codeIn (answered c k) ≡ 0 →
     let q = asked c k in
-    byRule q ≡ true → rulePlace (occupied (ground (upTo c k .table) q)) W H (ruleOf q) (wide q) (high q) ≡ some (placeIn (answered c k))
+    byRule q ≡ true → rulePlace (occupied (upTo c k .table)) W H (ruleOf q) (wide q) (high q) ≡ some (placeIn (answered c k))
 stands-by-rule W H c e k l ok = A.answer-stands-as c e k l ok .rule
 
 pub stands-by-pin : (W H : ℕ) (c : RunCall W H) → NotRefused c → (k : ℕ) → k < requests (c .block) → codeIn (answered c k) ≡ 0 → atPlace (asked c k) ≡ true → placeIn (answered c k) ≡ pinned (asked c k)
@@ -378,3 +367,42 @@ set-stands W H = A.answer-set-stands
 pub others-stand : (W H : ℕ) (c : RunCall W H) → NotRefused c → (k : ℕ) → k < requests (c .block) → codeIn (answered c k) ≡ 0 → isRemove (asked c k) ≡ false → isSet (asked c k) ≡ false →
     Placed (upTo c (suc k) .table) (idAsked (asked c k)) (placeIn (answered c k)) 0
 others-stand W H = A.answer-others-stand
+
+-- ==== ORDER 3: "Exchange is now judged with the old module in its place, and the old one goes when the new one stands." (Demand 2 above: `request-refused-exactly`, `stands-by-rule`, on the table with the
+-- old module; `exchange-slot`. Demand 3 reads as before. That a refused exchange changes nothing is `request-refused`.)
+
+-- the old module, wherever it stands, is counted as occupied
+pub old-counted : (W H : ℕ) (c : RunCall W H) → NotRefused c → (k : ℕ) → k < requests (c .block) →
+    let t = upTo c k .table in
+    let q = asked c k in
+    Sound t q → needsOld q ≡ true → (x y : ℕ) → covers (rectOf t (slotOf t (idAsked q))) x y ≡ true → occupied t x y ≡ true
+old-counted W H = A.answer-old-counted
+
+-- and no free slot is asked for: whatever the table, a sound exchange is refused exactly when no position is empty with the old module there, and then with 20
+pub exchange-refused-exactly : (W H : ℕ) (c : RunCall W H) → NotRefused c → (k : ℕ) → k < requests (c .block) →
+    let t = upTo c k .table in
+    let q = asked c k in
+    Sound t q → isExchange q ≡ true →
+    ((codeIn (answered c k) ≡ 0 → ⊥) ↔ ((x y : ℕ) → Empty (occupied t) W H (rect x y (wide q) (high q)) → ⊥)) × ((codeIn (answered c k) ≡ 0 → ⊥) → codeIn (answered c k) ≡ 20)
+exchange-refused-exactly W H = A.answer-exchange-exactly
+
+-- ---- "so the new one may not cover a single old cell": what an accepted exchange puts in shares no cell with the old module; and what any accepted request puts in shares none with any module or block that was there
+
+pub exchange-clear-of-old : (W H : ℕ) (c : RunCall W H) → NotRefused c → (k : ℕ) → k < requests (c .block) → codeIn (answered c k) ≡ 0 → isExchange (asked c k) ≡ true →
+    let t = upTo c k .table in
+    (x y : ℕ) → covers (rectOf t (slotOf t (idAsked (asked c k)))) x y ≡ true → covers (placeIn (answered c k)) x y ≡ false
+exchange-clear-of-old W H = A.answer-clear-of-old
+
+pub stands-clear : (W H : ℕ) (c : RunCall W H) → NotRefused c → (k : ℕ) → k < requests (c .block) → codeIn (answered c k) ≡ 0 → isRemove (asked c k) ≡ false →
+    let t = upTo c k .table in
+    (i : ℕ) → freeSlot t i ≡ false → (x y : ℕ) → covers (rectOf t i) x y ≡ true → covers (placeIn (answered c k)) x y ≡ false
+stands-clear W H = A.answer-clear
+
+-- ---- "the old one goes when the new one stands": afterwards no slot but its own has the id (there stands the new one: `exchange-slot`, `stands-there`), and every cell of the old rectangle is empty
+
+pub old-goes : (W H : ℕ) (c : RunCall W H) → NotRefused c → (k : ℕ) → k < requests (c .block) → codeIn (answered c k) ≡ 0 → isExchange (asked c k) ≡ true →
+    let t = upTo c k .table in
+    let t′ = upTo c (suc k) .table in
+    let id = idAsked (asked c k) in
+    ((j : ℕ) → SlotOfId t′ j id → j ≡ slotOf t id) × ((x y : ℕ) → covers (rectOf t (slotOf t id)) x y ≡ true → occupied t′ x y ≡ false)
+old-goes W H = A.answer-old-goes

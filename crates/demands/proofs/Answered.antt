@@ -1,6 +1,6 @@
 -- THE REQUESTS OF A CALL THAT WAS NOT REFUSED, each with its answer in the host's bytes. Assumes nothing.
 use mathlib.Core.Path.{_≡_, refl, sym, ap, ap₂, _∙_, subst}
-use mathlib.Core.Bool.{true, false, not, cond, _&&_, _||_}
+use mathlib.Core.Bool.{true, false, cond, _||_}
 use mathlib.Core.Logic.{_↔_}
 use mathlib.Core.List.{List}
 use Prim.Native.Nat.{ℕ, suc, _+_, _*_, _≤_, _<_}
@@ -13,7 +13,7 @@ use lib.Seq.{getD-take, getD-drop}
 use Rattle.rules.specs.Judging.{first, FirstThat}
 use Rattle.rules.specs.Surface.{rect, slots, covers, rectOf, kindOf, recordOf, freeRecord, freeSlot, withRecord, occupied}
 use Rattle.rules.specs.Empties.{Empty}
-use Rattle.rules.specs.Requests.{operation, kindAsked, idLow, idHigh, idAsked, wide, high, byRule, isPlace, isRemove, isPin, isExchange, isSet, atPlace, makesNew, needsOld, pinned, judgedTo, idPlaced, slotOf, lowestFree, ground, judging, stepOf, codeOf, valuesOf, answerOf, tableAfter, acceptedOne}
+use Rattle.rules.specs.Requests.{operation, kindAsked, idLow, idHigh, idAsked, wide, high, byRule, isPlace, isRemove, isPin, isExchange, isSet, atPlace, makesNew, needsOld, pinned, judgedTo, idPlaced, slotOf, lowestFree, judging, stepOf, codeOf, valuesOf, answerOf, tableAfter, acceptedOne}
 use Rattle.rules.specs.Place.{pinLines, pinStep}
 use Rattle.rules.specs.Blocks.{requests, request, nextBy, afterBy}
 use Rattle.rules.specs.Host.{weightsIn}
@@ -25,9 +25,9 @@ use Rattle.meaning.specs.Change.{Change, OldModule}
 use Rattle.meaning.specs.Change.Change.{puts, takes, swaps}
 use Rattle.meaning.proofs.Splits.{by-same}
 use Rattle.meaning.proofs.First.{first-is}
-use Rattle.meaning.proofs.Changes.{id-gone}
+use Rattle.meaning.proofs.Changes.{id-gone, put-occupied, taken-less}
 use Rattle.meaning.proofs.Theorems.{pin-step, set-step}
-use Rattle.meaning.proofs.Steps.{refused-code, rules-step, kind-is, module-kind, change, put-leaves, take-leaves, swap-leaves}
+use Rattle.meaning.proofs.Steps.{asking, old-there, refused-code, rules-step, kind-is, module-kind, change, put-leaves, take-leaves, swap-leaves}
 use Rattle.demands.specs.Sound.{Sound, SlotForIt, SoundTo16, asPin}
 use Rattle.demands.specs.History.{moduleAt, codeIn, placeIn}
 use Rattle.demands.specs.Told.{HasModule, Placed, LowestFree, SlotOfId, HardId, HardStays}
@@ -36,7 +36,7 @@ use Rattle.demands.specs.Chain.{RunCall, NotRefused, asked, answered, up
 use Rattle.demands.proofs.Refusals as R
 use Rattle.demands.proofs.Refusals.{StandsAs, stands-as}
 use Rattle.demands.proofs.Told.{put-has}
-use Rattle.demands.proofs.Hard.{hard-step, change-clear}
+use Rattle.demands.proofs.Hard.{hard-step, change-clear, used-occupied, placed-clear}
 use Rattle.demands.proofs.Blocks.{answers-at, framed-after}
 use Rattle.demands.proofs.Chains.{call-stands, call-answers, each-stands}
 
@@ -88,9 +88,6 @@ module _ {W H : ℕ} (c : RunCall W H) (e : NotRefused c) (k : ℕ) (l : k < req
   pub answer-never-22 : getD (c .answers) (8 * k) 0 ≡ 22 → ⊥
   answer-never-22 z = R.never-22 W H t q (sym code-is ∙ code-byte (c .answers) k ∙ z)
 
-  pub answer-ground : Sound t q → isExchange q ≡ true → (x y : ℕ) → occupied (ground t q) x y ≡ (occupied t x y && not (covers (rectOf t (slotOf t (idAsked q))) x y))
-  answer-ground = R.ground-exchange W H s t q (each-stands c e k)
-
   -- a refused one
   pub answer-refused : (codeIn (answered c k) ≡ 0 → ⊥) → (upTo c (suc k) .weights ≡ upTo c k .weights) × (then ≡ t)
   unfolding afterBy nextBy
@@ -98,11 +95,25 @@ module _ {W H : ℕ} (c : RunCall W H) (e : NotRefused c) (k : ℕ) (l : k < req
 
   -- refused exactly when
   pub answer-refused-exactly : Sound t q → byRule q ≡ true → SlotForIt t q →
-      (codeIn (answered c k) ≡ 0 → ⊥) ↔ ((x y : ℕ) → Empty (occupied (ground t q)) W H (rect x y (wide q) (high q)) → ⊥)
+      (codeIn (answered c k) ≡ 0 → ⊥) ↔ ((x y : ℕ) → Empty (occupied t) W H (rect x y (wide q) (high q)) → ⊥)
   answer-refused-exactly so by sl =
       let a = R.refused-exactly W H t q so by sl in
-      let b = R.no-position (occupied (ground t q)) W H (wide q) (high q) in
+      let b = R.no-position (occupied t) W H (wide q) (high q) in
       (λ ne. b .0 (a .0 (λ z. ne (code-is ∙ z))), λ f z. a .1 (b .1 f) (sym code-is ∙ z))
+
+  -- an exchange needs no slot
+  pub answer-exchange-exactly : Sound t q → isExchange q ≡ true →
+      ((codeIn (answered c k) ≡ 0 → ⊥) ↔ ((x y : ℕ) → Empty (occupied t) W H (rect x y (wide q) (high q)) → ⊥)) × ((codeIn (answered c k) ≡ 0 → ⊥) → codeIn (answered c k) ≡ 20)
+  answer-exchange-exactly so f =
+      let by = or-right (isPlace q) (isExchange q) f in
+      let none : SlotForIt t q = λ p. not-both (isPlace q) p (ap (λ n. eqb n 1) (eqb-true (operation q) 4 f)) in
+      (answer-refused-exactly so by none, λ ne. code-is ∙ R.refused-as-20 W H t q so by none (λ z. ne (code-is ∙ z)))
+
+  -- the old module of a remove or an exchange is counted
+  pub answer-old-counted : Sound t q → needsOld q ≡ true → (x y : ℕ) → covers (rectOf t (slotOf t (idAsked q))) x y ≡ true → occupied t x y ≡ true
+  answer-old-counted so f =
+      let d = each-stands c e k in
+      used-occupied d (slotOf t (idAsked q)) (old-there W H s t q d (asking t q (R.sound-first t q so)) f .taking .used)
 
   -- ---- blocks of the fabric
 
@@ -150,7 +161,7 @@ module _ {W H : ℕ} (c : RunCall W H) (e : NotRefused c) (k : ℕ) (l : k < req
         elim did [
           | puts n l p ↦ at _ (put-leaves W H s t q i r (n .noRemove)) (put-has W H s t i (idLow q) (idHigh q) r (kindAsked q) p)
           | takes o x p z ↦ not-both (isRemove q) o f
-          | swaps o x p n ↦ at _ (swap-leaves W H s t q i r o (p .taking)) (put-has W H _ _ i (idLow q) (idHigh q) r (kindAsked q) n)
+          | swaps o x p v n ↦ at _ (swap-leaves W H s t q i r o (p .taking)) (put-has W H _ _ i (idLow q) (idHigh q) r (kindAsked q) n)
         ]
 
     pub answer-gone : isRemove q ≡ true → Placed t (idAsked q) r 0 × (idPlaced then (idAsked q) ≡ false)
@@ -160,7 +171,7 @@ module _ {W H : ℕ} (c : RunCall W H) (e : NotRefused c) (k : ℕ) (l : k < req
         record { slot = i; has = record { low = p .taking .slot; used = p .taking .used; id = p .named; place = sym z; kind = module-kind W H s t q i p } },
         ap₂ idPlaced (leaves ∙ take-leaves W H s t q i r o) (sym (p .named)) ∙ id-gone W H s t i (p .taking),
       )
-      | swaps o x p n ↦ not-both (isRemove q) f o
+      | swaps o x p v n ↦ not-both (isRemove q) f o
     ]
 
     -- ---- its record stands in the lowest free slot, or in its own
@@ -176,21 +187,47 @@ module _ {W H : ℕ} (c : RunCall W H) (e : NotRefused c) (k : ℕ) (l : k < req
         leaves ∙ put-leaves W H s t q i r (n .noRemove) ∙ ap (λ j. withRecord t j (recordOf (idLow q) (idHigh q) r (kindAsked q))) m,
       )
       | takes o x p z ↦ not-both (makesNew q) f (R.old-not-new q (ap₂ _||_ o x))
-      | swaps o x p n ↦ not-both (makesNew q) f (R.old-not-new q (ap₂ _||_ o x))
+      | swaps o x p v n ↦ not-both (makesNew q) f (R.old-not-new q (ap₂ _||_ o x))
     ]
 
     pub answer-exchange-slot : isExchange q ≡ true → SlotOfId t (slotOf t (idAsked q)) (idAsked q) × (then ≡ withRecord t (slotOf t (idAsked q)) (recordOf (idLow q) (idHigh q) r 0))
     answer-exchange-slot f = elim did [
       | puts n m p ↦ not-both (isExchange q) f (n .noExchange)
       | takes o x p z ↦ not-both (isExchange q) f x
-      | swaps o x p n ↦ (its p, leaves ∙ put-leaves W H s t q i r o ∙ ap₂ (λ j k. withRecord t j (recordOf (idLow q) (idHigh q) r k)) (p .at) (kind-is q false (ap (λ n. eqb n 6) (eqb-true (operation q) 4 x))))
+      | swaps o x p v n ↦ (its p, leaves ∙ put-leaves W H s t q i r o ∙ ap₂ (λ j k. withRecord t j (recordOf (idLow q) (idHigh q) r k)) (p .at) (kind-is q false (ap (λ n. eqb n 6) (eqb-true (operation q) 4 x))))
     ]
 
     pub answer-freed-slot : isRemove q ≡ true → SlotOfId t (slotOf t (idAsked q)) (idAsked q) × (then ≡ withRecord t (slotOf t (idAsked q)) freeRecord)
     answer-freed-slot f = elim did [
       | puts n m p ↦ not-both (isRemove q) f (n .noRemove)
       | takes o x p z ↦ (its p, leaves ∙ take-leaves W H s t q i r o ∙ ap (λ j. withRecord t j freeRecord) (p .at))
-      | swaps o x p n ↦ not-both (isRemove q) f o
+      | swaps o x p v n ↦ not-both (isRemove q) f o
+    ]
+
+    -- ---- it stands clear of what was there, and the old module of an exchange goes
+
+    pub answer-clear : isRemove q ≡ false → (j : ℕ) → freeSlot t j ≡ false → (x y : ℕ) → covers (rectOf t j) x y ≡ true → covers r x y ≡ false
+    answer-clear f = elim did [
+      | puts n m p ↦ placed-clear (each-stands c e k) r (p .empty)
+      | takes o x p z ↦ not-both (isRemove q) o f
+      | swaps o x p v n ↦ placed-clear (each-stands c e k) r v
+    ]
+
+    pub answer-clear-of-old : isExchange q ≡ true → (x y : ℕ) → covers (rectOf t (slotOf t (idAsked q))) x y ≡ true → covers r x y ≡ false
+    answer-clear-of-old f = answer-clear (ap (λ n. eqb n 2) (eqb-true (operation q) 4 f)) (slotOf t (idAsked q)) (answer-exchange-slot f .0 .used)
+
+    pub answer-old-goes : isExchange q ≡ true → ((j : ℕ) → SlotOfId then j (idAsked q) → j ≡ slotOf t (idAsked q)) × ((x y : ℕ) → covers (rectOf t (slotOf t (idAsked q))) x y ≡ true → occupied then x y ≡ false)
+    answer-old-goes f = elim did [
+      | puts n m p ↦ not-both (isExchange q) f (n .noExchange)
+      | takes o x p z ↦ not-both (isExchange q) f x
+      | swaps o x p v n ↦
+          let u = leaves ∙ swap-leaves W H s t q i r o (p .taking) in
+          let h = subst (λ t. HasModule t (moduleAt i (idAsked q) r (kindAsked q))) (sym u) (put-has W H _ _ i (idLow q) (idHigh q) r (kindAsked q) n) in
+          let one = R.slot-one W H _ then (each-stands c e (suc k)) in (
+            (λ j w. sym (one j (idAsked q) (w .slot) (w .used) (w .named)) ∙ one i (idAsked q) (h .low) (h .used) (h .id) ∙ p .at),
+            (λ x y w. ap (λ t. occupied t x y) u ∙ put-occupied W H _ _ i (idLow q) (idHigh q) r (kindAsked q) n x y
+                ∙ ap₂ _||_ (taken-less W H s t i (p .taking) .alone x y (ap (λ j. covers (rectOf t j) x y) (p .at) ∙ w)) (answer-clear-of-old f x y w)),
+          )
     ]
 
     -- ---- blocks of the fabric

@@ -53,7 +53,7 @@ module _ (W H : ℕ) (q : List ℕ) (a : State) (i : ℕ) (r : Rect) (d : StateS
     weights = f;
   }
 
-  -- "the surface without the old module"
+  -- the table without the old module
   bare-is : (b : Bool) → needsOld q ≡ b → bare t q ≡ cond b (withRecord t (slotOf t (idAsked q)) freeRecord) t
   bare-is b e = ap (λ b. cond b (withRecord t (slotOf t (idAsked q)) freeRecord) t) e
 
@@ -65,7 +65,7 @@ module _ (W H : ℕ) (q : List ℕ) (a : State) (i : ℕ) (r : Rect) (d : StateS
   go (takes o x p m) = framed (p .taking .slot) (λ c y hc hy ne.
       ofModule (subst₂ (λ v u. Reached v u c y) (sym m) (ap (λ j. withRecord t j freeRecord) (p .at) ∙ sym (bare-is true (ap₂ _||_ o x)))
       (reached (rectOf t i) (withRecord t i freeRecord) c y _ (take-frame W H s t i (p .taking) c y hc hy) (λ k. ne (ap (λ u. cell W (fresh W H u) c y) (take-leaves W H s t q i r o) ∙ k)))))
-  go (swaps o x p n) = framed (p .taking .slot) (λ c y hc hy ne.
+  go (swaps o x p v n) = framed (p .taking .slot) (λ c y hc hy ne.
       let u = withRecord t i freeRecord in
       let g : u ≡ bare t q = ap (λ j. withRecord t j freeRecord) (p .at) ∙ sym (bare-is true (ap₂ _||_ o x)) in
       let w : cell W (end .weights) c y ≡ cell W (fresh W H (withRecord u i (recordOf (idLow q) (idHigh q) r (kindAsked q)))) c y = ap (λ v. cell W (fresh W H v) c y) (swap-leaves W H s t q i r o (p .taking)) in

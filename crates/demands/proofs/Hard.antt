@@ -10,19 +10,20 @@ use borrow.Author.Tests.{eq-eqb, ne-eqb}
 use lib.IntN.{ℤ}
 use lib.ListN.{List·getD-eq-default}
 use Rattle.rules.specs.Surface.{Standing, slots, covers, byte, rectOf, kindOf, isHard, freeSlot, holds, occupied}
+use Rattle.rules.specs.Empties.{cellsEmpty}
 use Rattle.rules.specs.Requests.{recordAfter, stepOf, tableAfter}
 use Rattle.rules.specs.Blocks.{State, request, nextBy, afterBy}
 use Rattle.rules.specs.declared.Rect.{Rect}
 use Rattle.rules.specs.declared.Step.{Step}
 use Rattle.rules.specs.declared.Step.the-variants.{Refused, Done}
 use Rattle.rules.proofs.Tests.{and-both, not-both, fails, any-yes}
-use Rattle.meaning.specs.Change.{Placing, StepOrRefusal, Stricter, Change}
+use Rattle.meaning.specs.Change.{StepOrRefusal, Stricter, Change}
 use Rattle.meaning.specs.Change.Change.{puts, takes, swaps}
 use Rattle.meaning.proofs.Splits.{by-less}
-use Rattle.meaning.proofs.Tables.{free-byte, bytes-free, record-alike, alike-slots, alike-holds}
+use Rattle.meaning.proofs.Tables.{free-byte, bytes-free, record-alike}
 use Rattle.meaning.proofs.Weights.{covers-within, holds-both}
 use Rattle.meaning.proofs.Stands.{sound-told, slots-told, apart-told, standing-table}
-use Rattle.meaning.proofs.Changes.{slot-fits, empty-at, taken-alike}
+use Rattle.meaning.proofs.Changes.{slot-fits, empty-at}
 use Rattle.meaning.proofs.Steps.{StateStands, change, accepted-as, record-eight, after-by-stands}
 use Rattle.demands.specs.History.{Module}
 use Rattle.demands.specs.Told.{HasModule, HardStays}
@@ -47,7 +48,7 @@ stays-on t u v f g i e k l = g i (f i e 6 (omega arith) ∙ e) k l ∙ f i e k l
 written-soft : (W H : ℕ) (s : List ℤ) (t q : List ℕ) (i : ℕ) (r : Rect) → Change W H s t q i r → (i < slots t) × (isHard t i ≡ false)
 written-soft W H s t q i r (puts n l p) = (p .slot, ne-eqb (kindOf t i) 1 (λ e. omega (arith, e, free-byte t i (p .unused) 6 (omega arith))))
 written-soft W H s t q i r (takes o x p m) = (p .taking .slot, p .soft)
-written-soft W H s t q i r (swaps o x p n) = (p .taking .slot, p .soft)
+written-soft W H s t q i r (swaps o x p v n) = (p .taking .slot, p .soft)
 
 -- A REQUEST LEAVES EVERY BLOCK AS IT WAS, whatever it comes to
 pub hard-step : (W H : ℕ) (q : List ℕ) (a : State) (d : Step) → StepOrRefusal d (stepOf W H (a .table) q) → StateStands W H a → HardStays (a .table) (tableAfter q d (a .table))
@@ -89,6 +90,11 @@ stays-has t u f d m e w =
 
 -- ---- nothing stands on a block
 
+-- the cells of a used slot are occupied
+pub used-occupied : {W H : ℕ} {s : List ℤ} {t : List ℕ} → Standing W H s t → (j : ℕ) → freeSlot t j ≡ false → (x y : ℕ) → covers (rectOf t j) x y ≡ true → occupied t x y ≡ true
+unfolding occupied
+used-occupied {t = t} d j f x y e = any-yes (slots t) (holds t x y) j (used-low d j f) (holds-both t x y j (ap not f) e)
+
 -- two used slots, in a table that stands, share no cell
 pub slots-apart : {W H : ℕ} {s : List ℤ} {t : List ℕ} → Standing W H s t → (i j : ℕ) → (i ≡ j → ⊥) → freeSlot t i ≡ false → freeSlot t j ≡ false → (x y : ℕ) → covers (rectOf t i) x y ≡ true → covers (rectOf t j) x y ≡ false
 slots-apart {W} {H} {s} {t} d i j ne f g x y e =
@@ -99,21 +105,18 @@ slots-apart {W} {H} {s} {t} d i j ne f g x y e =
     not-both (holds t x y i && holds t x y j) (and-both (holds-both t x y i (ap not f) e) (holds-both t x y j (ap not g) k))
     (apart-told W H t (u .modulesAre) x y (omega (arith, w .right, p .columns)) (omega (arith, w .bottom, p .lines)) i j (used-low d i f) (used-low d j g) ne))
 
--- what is put in has no cell of a slot that is used
-placed-clear : (W H : ℕ) (s : List ℤ) (t : List ℕ) (i low high : ℕ) (r : Rect) (kind : ℕ) → Placing W H s t i low high r kind → (j x y : ℕ) → j < slots t → holds t x y j ≡ true → covers r x y ≡ false
-unfolding occupied
-placed-clear W H s t i low high r kind p j x y l e =
-    fails (covers r x y) (λ k. true≢false (sym (any-yes (slots t) (holds t x y) j l e) ∙ empty-at (occupied t) r (p .empty) x y k))
+-- what is put in has no cell of a module or a block that was there: its cells were all empty
+pub placed-clear : {W H : ℕ} {s : List ℤ} {t : List ℕ} → Standing W H s t → (r : Rect) → cellsEmpty (occupied t) r ≡ true → (j : ℕ) → freeSlot t j ≡ false → (x y : ℕ) → covers (rectOf t j) x y ≡ true → covers r x y ≡ false
+placed-clear {t = t} d r e j f x y k = fails (covers r x y) (λ c. true≢false (sym (used-occupied d j f x y k) ∙ empty-at (occupied t) r e x y c))
 
 -- AN ACCEPTED MODULE OR BLOCK SHARES NO CELL WITH A BLOCK THAT WAS THERE; (r is what a remove takes out, and that is no block)
 pub change-clear : (W H : ℕ) (s : List ℤ) (t q : List ℕ) (i : ℕ) (r : Rect) → Standing W H s t → Change W H s t q i r → (j : ℕ) → kindOf t j ≡ 1 → (x y : ℕ) → covers (rectOf t j) x y ≡ true → covers r x y ≡ false
 change-clear W H s t q i r d c j h x y e =
     let f = hard-used t j h in
-    let ne : j ≡ i → ⊥ = λ z. not-both (isHard t i) (eq-eqb (kindOf t i) 1 (ap (kindOf t) (sym z) ∙ h)) (written-soft W H s t q i r c .1) in
     elim c [
-      | puts n l p ↦ placed-clear W H s t i _ _ r _ p j x y (used-low d j f) (holds-both t x y j (ap not f) e)
-      | takes o z p m ↦ ap (λ v. covers v x y) m ∙ slots-apart d j i ne f (p .taking .used) x y e
-      | swaps o z p n ↦
-          let a = taken-alike W H s t i (p .taking) in
-          placed-clear W H _ _ i _ _ r _ n j x y (omega (arith, alike-slots a, used-low d j f)) (alike-holds a j ne x y ∙ holds-both t x y j (ap not f) e)
+      | puts n l p ↦ placed-clear d r (p .empty) j f x y e
+      | takes o z p m ↦
+          ap (λ v. covers v x y) m
+          ∙ slots-apart d j i (λ z. not-both (isHard t i) (eq-eqb (kindOf t i) 1 (ap (kindOf t) (sym z) ∙ h)) (p .soft)) f (p .taking .used) x y e
+      | swaps o z p v n ↦ placed-clear d r v j f x y e
     ]

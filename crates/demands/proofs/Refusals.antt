@@ -11,11 +11,11 @@ use lib.Dec.{ltb, eqb}
 use lib.IntN.{ℤ}
 use lib.ListN.{take, drop}
 use Rattle.rules.specs.Tests.{any}
-use Rattle.rules.specs.Surface.{Standing, rect, covers, slots, idOf, rectOf, kindOf, isHard, freeSlot, occupied}
+use Rattle.rules.specs.Surface.{Standing, rect, slots, idOf, kindOf, isHard, freeSlot, occupied}
 use Rattle.rules.specs.Empties.{cellsEmpty, empty, Empty}
 use Rattle.rules.specs.Judging.{Line, _when_, first, NoneApplies, FirstThat}
 use Rattle.meaning.specs.Numbers.{above, hasCode, differ}
-use Rattle.rules.specs.Requests.{operation, hasId, idPlaced, ruleOf, idAsked, wide, high, byte6, byte7, isPlace, isExchange, byRule, atPlace, makesNew, pinned, slotOf, someFree, ground, position, rulePlace, anyCellTaken, soundLines, placeLines, judging, stepOf, codeOf, needsOld, isRemove}
+use Rattle.rules.specs.Requests.{operation, hasId, idPlaced, ruleOf, idAsked, wide, high, byte6, byte7, isPlace, isExchange, byRule, atPlace, makesNew, pinned, slotOf, someFree, position, rulePlace, anyCellTaken, soundLines, placeLines, judging, stepOf, codeOf, needsOld, isRemove}
 use Rattle.rules.specs.Blocks.{State, withStep}
 use Rattle.rules.specs.declared.Rect.{Rect}
 use Rattle.rules.specs.declared.Step.{Step}
@@ -27,11 +27,10 @@ use Rattle.meaning.proofs.Rectangles.{empty-is}
 use Rattle.meaning.proofs.First.{first-is, none-is, none-first, first-over, first-stop, exactly}
 use Rattle.meaning.proofs.Tables.{slot-placed, slot-has}
 use Rattle.meaning.proofs.Stands.{sameId, ids-told, standing-table}
-use Rattle.meaning.proofs.Changes.{take-occupied}
 use Rattle.demands.specs.Sound.{Sound, SlotForIt, SoundTo16}
 use Rattle.demands.specs.Told.{HardId}
 use Rattle.demands.proofs.Hard.{hard-used, used-low}
-use Rattle.meaning.proofs.Steps.{code-is, done-refused, done-rect, came, empty-parts, at-place, Asking, asking, sizes, ground-for, old-there}
+use Rattle.meaning.proofs.Steps.{code-is, done-refused, done-rect, came, empty-parts, at-place, Asking, asking, sizes}
 use Rattle.meaning.proofs.Steps.Came.{refused, placed, removed, put, exchanged}
 
 -- ---- a refusal changes nothing
@@ -73,7 +72,7 @@ first-not n (l ∷ ls) ne h e =
 
 module _ (W H : ℕ) (t q : List ℕ) where
   abbrev occ : ℕ → ℕ → Bool
-  occ = occupied (ground t q)
+  occ = occupied t
 
   abbrev chosen : Option Rect
   chosen = rulePlace occ W H (ruleOf q) (wide q) (high q)
@@ -148,6 +147,9 @@ module _ (W H : ℕ) (t q : List ℕ) where
     (λ p z. let n : _≡_ {A = ℕ} 0 20 = sym z ∙ rule-code s e f ∙ ap {B = ℕ} (λ b. cond b 0 20) p in omega arith),
   )
 
+  pub refused-as-20 : Sound t q → byRule q ≡ true → SlotForIt t q → (codeOf (stepOf W H t q) ≡ 0 → ⊥) → codeOf (stepOf W H t q) ≡ 20
+  refused-as-20 s e f ne = rule-code s e f ∙ ap {B = ℕ} (λ b. cond b 0 20) (refused-exactly s e f .0 ne)
+
 -- no position, said of all rectangles of that size that there are
 pub no-position : (occ : ℕ → ℕ → Bool) (W H w h : ℕ) → (position occ W H w h ≡ false) ↔ ((x y : ℕ) → Empty occ W H (rect x y w h) → ⊥)
 unfolding position
@@ -181,7 +183,7 @@ to-none n [] ms z h l m c = absurd (omega (arith, h l m))
 to-none n (k ∷ ls) ms z h l m c = by-cons m (λ q. ap (λ (l : Line). l .applies) q ∙ z .0) (λ m. to-none n ls ms (z .1) h l m c)
 
 -- on a surface that stands an id has one slot
-slot-one : (W H : ℕ) (s : List ℤ) (t : List ℕ) → Standing W H s t → (i n : ℕ) → i < slots t → freeSlot t i ≡ false → idOf t i ≡ n → slotOf t n ≡ i
+pub slot-one : (W H : ℕ) (s : List ℤ) (t : List ℕ) → Standing W H s t → (i n : ℕ) → i < slots t → freeSlot t i ≡ false → idOf t i ≡ n → slotOf t n ≡ i
 unfolding idPlaced
 slot-one W H s t d i n l f e =
     let k = slotOf t n in
@@ -223,19 +225,6 @@ module _ (W H : ℕ) (s : List ℤ) (t q : List ℕ) (d : Standing W H s t) wher
         (λ k. x .1 (none-to 16 six (drop 6 (soundLines t q)) (unfold soundLines below in refl) (k .1), and-both (k .0) (id-hard (k .2)))),
       )
 
--- ---- the surface on which a place is judged
-
-pub ground-place : (t q : List ℕ) → isPlace q ≡ true → ground t q ≡ t
-ground-place t q e = ground-for t q 1 (eqb-true (operation q) 1 e)
-
--- "(for an exchange, the old module taken away)"
-pub ground-exchange : (W H : ℕ) (s : List ℤ) (t q : List ℕ) → Standing W H s t → Sound t q → isExchange q ≡ true → (x y : ℕ) →
-    occupied (ground t q) x y ≡ (occupied t x y && not (covers (rectOf t (slotOf t (idAsked q))) x y))
-ground-exchange W H s t q d a e x y =
-    let o = eqb-true (operation q) 4 e in
-    let p = old-there W H s t q d (asking t q (sound-first t q a)) (ap (λ n. eqb n 2 || eqb n 4) o) in
-    ap (λ u. occupied u x y) (ground-for t q 4 o) ∙ take-occupied W H s t (slotOf t (idAsked q)) (p .taking) x y
-
 -- ---- where an accepted module stands
 
 -- an operation that needs an old module makes no new one
@@ -247,7 +236,7 @@ old-not-new q e =
 
 -- by its rule, or where its pin says
 pub record StandsAs (W H : ℕ) (t q : List ℕ) (r : Rect) : Type 0 where
-  pub rule : byRule q ≡ true → rulePlace (occupied (ground t q)) W H (ruleOf q) (wide q) (high q) ≡ some r
+  pub rule : byRule q ≡ true → rulePlace (occupied t) W H (ruleOf q) (wide q) (high q) ≡ some r
   pub there : atPlace q ≡ true → r ≡ pinned q
 
 pub stands-as : (W H : ℕ) (s : List ℤ) (t q : List ℕ) → Standing W H s t → (i : ℕ) (r : Rect) → stepOf W H t q ≡ Done i r → StandsAs W H t q r

@@ -205,7 +205,7 @@ module _ (W H : ℕ) (q : List ℕ) (a : State) (h : List Module) (z : StateStan
       (sym (noted-as i r 2 (eqb-true (operation q) 2 o) ∙ ap (λ n. others n h) (sym (p .named))))
       (sym (take-leaves W H s t q i r o))
       (told-take W H s t i (p .taking) h m)
-  done i r (swaps o x p n) =
+  done i r (swaps o x p v n) =
       let e = eqb-true (operation q) 4 x in
       let there = slot-told h t m i (idAsked q) (p .taking .slot) (p .taking .used) (p .named) in
       let new : Module = moduleAt i (idAsked q) r (kindAsked q) in

@@ -1,4 +1,4 @@
--- EXAMPLES, computed: the history and the frame in worked cases G and H and in the two cases of rules/specs/Examples with a removal and an exchange. After
+-- EXAMPLES, computed: the history in worked cases G and H, history and frame in stories with removals, exchanges and blocks. After
 -- each request: the modules that the history says are placed, the weights worked out afresh from them, and the cells that the request may have changed. Last,
 -- the bottom rows that the records of a room tell.
 use mathlib.Core.Path.{_≡_, refl}
@@ -67,45 +67,28 @@ pin id x y w h = eight 3 0 id 0 w h x y
 abbrev remove : ℕ → List ℕ
 remove id = eight 2 0 id 0 0 0 0 0
 
--- ---- G: 3×3, pin id 7, 1×1 at (1,1), exchanged to 2×2 by rule 2: at (0,1). The history has the new rectangle in place of the old
+-- ---- G and H: 3×3, pin id 7, 1×1 at (1,1), exchanged by each rule to 2×2 (G), to 4×1 (H): refused, 20. The history keeps the old rectangle
 
-abbrev pub storyG : Story
-storyG = record { w = 3; h = 3; slots = 2; block = pin 7 1 1 1 1 ++ eight 4 2 7 0 2 2 0 0 }
+abbrev pub storyGH : ℕ → ℕ → Story
+storyGH w h = record { w = 3; h = 3; slots = 2; block = pin 7 1 1 1 1 ++ eight 4 0 7 0 w h 0 0 ++ eight 4 1 7 0 w h 0 0 ++ eight 4 2 7 0 w h 0 0 }
 
-pub g-told : tellings storyG ≡ (moduleAt 0 7 (rect 1 1 1 1) 0 ∷ []) ∷ (moduleAt 0 7 (rect 0 1 2 2) 0 ∷ []) ∷ []
+-- what is so after each of the four requests
+abbrev four : {A : Type 0} → A → List A
+four a = a ∷ a ∷ a ∷ a ∷ []
+
+pub g-told : tellings (storyGH 2 2) ≡ four (moduleAt 0 7 (rect 1 1 1 1) 0 ∷ [])
 unfolding caseHolds history leastUnused slotIn
 g-told = refl
 
-pub g-afresh : reckonings storyG ≡ (e 1 ∷ e 1 ∷ e 1 ∷ e 2 ∷ o 1 ∷ e 2 ∷ e 3 ∷ e 1 ∷ e 3 ∷ []) ∷ (e 1 ∷ e 1 ∷ e 1 ∷ o 2 ∷ o 1 ∷ e 2 ∷ o 2 ∷ o 1 ∷ e 3 ∷ []) ∷ []
-unfolding caseHolds history leastUnused slotIn taken remains historyWeight
-g-afresh = refl
-
-pub g-weights : weighings storyG ≡ reckonings storyG
-unfolding caseHolds history leastUnused slotIn taken remains historyWeight
-g-weights = refl
-
--- the pin: (1,1) and (1,2) below it; the exchange: columns 0 and 1 from row 1 down
-pub g-reached : reachings storyG ≡ (4 ∷ 7 ∷ []) ∷ (3 ∷ 4 ∷ 6 ∷ 7 ∷ []) ∷ []
-unfolding caseHolds reaches mayChange
-g-reached = refl
-
--- ---- H: the same pin, exchanged to 4×1 by each rule: refused, 20. The history keeps the old rectangle
-
-abbrev pub storyH : Story
-storyH = record { w = 3; h = 3; slots = 2; block = pin 7 1 1 1 1 ++ eight 4 0 7 0 4 1 0 0 ++ eight 4 1 7 0 4 1 0 0 ++ eight 4 2 7 0 4 1 0 0 }
-
-abbrev pinnedH : List ℤ
-pinnedH = e 1 ∷ e 1 ∷ e 1 ∷ e 2 ∷ o 1 ∷ e 2 ∷ e 3 ∷ e 1 ∷ e 3 ∷ []
-
-pub h-told : tellings storyH ≡ (moduleAt 0 7 (rect 1 1 1 1) 0 ∷ []) ∷ (moduleAt 0 7 (rect 1 1 1 1) 0 ∷ []) ∷ (moduleAt 0 7 (rect 1 1 1 1) 0 ∷ []) ∷ (moduleAt 0 7 (rect 1 1 1 1) 0 ∷ []) ∷ []
+pub h-told : tellings (storyGH 4 1) ≡ four (moduleAt 0 7 (rect 1 1 1 1) 0 ∷ [])
 unfolding caseHolds history leastUnused slotIn
 h-told = refl
 
-pub h-afresh : reckonings storyH ≡ pinnedH ∷ pinnedH ∷ pinnedH ∷ pinnedH ∷ []
+pub h-afresh : reckonings (storyGH 4 1) ≡ four (e 1 ∷ e 1 ∷ e 1 ∷ e 2 ∷ o 1 ∷ e 2 ∷ e 3 ∷ e 1 ∷ e 3 ∷ [])
 unfolding caseHolds history leastUnused slotIn taken remains historyWeight
 h-afresh = refl
 
-pub h-weights : weighings storyH ≡ reckonings storyH
+pub h-weights : weighings (storyGH 4 1) ≡ reckonings (storyGH 4 1)
 unfolding caseHolds history leastUnused slotIn taken remains historyWeight
 h-weights = refl
 
@@ -185,11 +168,48 @@ pub slots-told : tellings storySlots
     ≡ (moduleAt 0 1 (rect 0 0 1 1) 0 ∷ [])
     ∷ (moduleAt 1 2 (rect 0 3 1 1) 0 ∷ moduleAt 0 1 (rect 0 0 1 1) 0 ∷ [])
     ∷ (moduleAt 1 2 (rect 0 3 1 1) 0 ∷ [])
-    ∷ (moduleAt 1 2 (rect 0 2 1 2) 0 ∷ [])
-    ∷ (moduleAt 0 5 (rect 0 0 1 1) 0 ∷ moduleAt 1 2 (rect 0 2 1 2) 0 ∷ [])
+    ∷ (moduleAt 1 2 (rect 0 1 1 2) 0 ∷ [])
+    ∷ (moduleAt 0 5 (rect 0 0 1 1) 0 ∷ moduleAt 1 2 (rect 0 1 1 2) 0 ∷ [])
     ∷ []
 unfolding caseHolds history leastUnused slotIn
 slots-told = refl
+
+-- ---- an exchange whose old and new stretch meet in one column (order 3): 2×4, id 1 pinned at (0,1). By rule 0 it gives way to 1×1 right above it, at (0,0); by rule 2 from there to 1×2 at the bottom, at
+-- (0,2); by rule 1 to 1×1 at (0,1), between both
+
+abbrev pub storyMet : Story
+storyMet = record { w = 2; h = 4; slots = 1; block = pin 1 0 1 1 1 ++ eight 4 0 1 0 1 1 0 0 ++ eight 4 2 1 0 1 2 0 0 ++ eight 4 1 1 0 1 1 0 0 }
+
+pub met-told : tellings storyMet ≡ (moduleAt 0 1 (rect 0 1 1 1) 0 ∷ []) ∷ (moduleAt 0 1 (rect 0 0 1 1) 0 ∷ []) ∷ (moduleAt 0 1 (rect 0 2 1 2) 0 ∷ []) ∷ (moduleAt 0 1 (rect 0 1 1 1) 0 ∷ []) ∷ []
+unfolding caseHolds history leastUnused slotIn
+met-told = refl
+
+pub met-afresh : reckonings storyMet
+    ≡ (e 1 ∷ e 1 ∷ o 1 ∷ e 2 ∷ e 1 ∷ e 3 ∷ e 2 ∷ e 4 ∷ [])
+    ∷ (o 1 ∷ e 1 ∷ e 1 ∷ e 2 ∷ e 2 ∷ e 3 ∷ e 3 ∷ e 4 ∷ [])
+    ∷ (e 1 ∷ e 1 ∷ e 2 ∷ e 2 ∷ o 1 ∷ e 3 ∷ o 1 ∷ e 4 ∷ [])
+    ∷ (e 1 ∷ e 1 ∷ o 1 ∷ e 2 ∷ e 1 ∷ e 3 ∷ e 2 ∷ e 4 ∷ [])
+    ∷ []
+unfolding caseHolds history leastUnused slotIn taken remains historyWeight
+met-afresh = refl
+
+pub met-weights : weighings storyMet ≡ reckonings storyMet
+unfolding caseHolds history leastUnused slotIn taken remains historyWeight
+met-weights = refl
+
+-- column 0 alone: the pin from row 1 down; the first two exchanges from row 0, the last from row 1
+pub met-reached : reachings storyMet ≡ (2 ∷ 4 ∷ 6 ∷ []) ∷ (0 ∷ 2 ∷ 4 ∷ 6 ∷ []) ∷ (0 ∷ 2 ∷ 4 ∷ 6 ∷ []) ∷ (2 ∷ 4 ∷ 6 ∷ []) ∷ []
+unfolding caseHolds reaches mayChange
+met-reached = refl
+
+-- and across columns: 3×3, id 7 at (1,1) gives way by rule 2 to 3×1 at (0,2), by rule 0 to 2×2 at (0,0). Of column 2 the first may have changed the row of the new one alone, the second that of the old
+
+abbrev pub storyAcross : Story
+storyAcross = record { w = 3; h = 3; slots = 1; block = pin 7 1 1 1 1 ++ eight 4 2 7 0 3 1 0 0 ++ eight 4 0 7 0 2 2 0 0 }
+
+pub across-reached : reachings storyAcross ≡ (4 ∷ 7 ∷ []) ∷ (4 ∷ 6 ∷ 7 ∷ 8 ∷ []) ∷ (0 ∷ 1 ∷ 3 ∷ 4 ∷ 6 ∷ 7 ∷ 8 ∷ []) ∷ []
+unfolding caseHolds reaches mayChange
+across-reached = refl
 
 -- ---- a block (order 2): one column of four cells. Block 9 is set at row 1, in slot 0; module 1 comes above it, in slot 1, and goes; a remove and an exchange of the block are refused, 23, and
 -- note nothing; block 2 is set below it, in slot 1, which was freed

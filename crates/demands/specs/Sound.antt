@@ -11,7 +11,7 @@ use Rattle.rules.specs.Requests.{isPlace, someFree, soundLines}
 abbrev pub Sound : List ℕ → List ℕ → Type 0
 Sound t q = (l : Line) → List·Memᴰ l (soundLines t q) → l .applies ≡ false
 
--- "with a free slot where it needs one": an exchange keeps its slot
+-- "with a free slot where it needs one": an exchange needs none, for it keeps its own
 abbrev pub SlotForIt : List ℕ → List ℕ → Type 0
 SlotForIt t q = isPlace q ≡ true → someFree t ≡ true
 

@@ -1,9 +1,9 @@
 -- WHAT PUTTING A MODULE IN AND TAKING ONE OUT COME TO: the surface stands, which cells are occupied, and which weights may have changed (demand 3).
 -- Callers cite these. Assumes nothing.
-use mathlib.Core.Path.{_≡_, refl, sym, ap, ap₂, _∙_, subst, subst₂}
+use mathlib.Core.Path.{_≡_, refl, sym, ap, ap₂, _∙_, subst}
 use mathlib.Core.Bool.{Bool, true, false, not, _&&_, _||_, true≢false}
 use mathlib.Core.List.{List}
-use Prim.Native.Nat.{ℕ, _+_, _-_, _*_, _≤_, _<_, zero, suc}
+use Prim.Native.Nat.{ℕ, _+_, _-_, _*_, _≤_, _<_}
 use native.Mathlib.Omega.{arith}
 use borrow.Author.Tests.{eqb-true, eq-eqb, le-leb}
 use lib.Dec.{leb, eqb}
@@ -20,7 +20,7 @@ use Rattle.meaning.proofs.Rectangles.{cellsEmpty-at, cellsEmpty-yes}
 use Rattle.meaning.proofs.Weights.{covers-within}
 use Rattle.meaning.proofs.Tables.{free-byte, bytes-free, Alike, alike-back, alike-slots, alike-free, alike-id, alike-holds, record-byte, record-alike, sets-low, sets-high}
 use Rattle.meaning.specs.Change.{On, Placing, Taking, Spared}
-use Rattle.meaning.proofs.Stands.{Sound, sound-told, told-sound, slots-told, sameId, same-told, apart-told, SoundTable, standing-fresh, standing-table, fresh-standing, standing-of, written-sound, ids-told}
+use Rattle.meaning.proofs.Stands.{Sound, sound-told, told-sound, slots-told, sameId, same-told, apart-told, SoundTable, standing-fresh, standing-table, fresh-standing, written-sound, ids-told}
 use Rattle.meaning.proofs.More.{OneMore, holds-here, occupied-more, occupied-less, frame}
 use lib.Seq.{ext-getD, length-sets}
 use Rattle.meaning.proofs.Columns.{within-yes, covers-in}
@@ -161,10 +161,6 @@ module _ (W H : ℕ) (s : List ℤ) (t : List ℕ) (i : ℕ) (p : Taking W H s t
   pub take-stands : Standing W H (fresh W H taken) taken
   take-stands = fresh-standing W H taken left-table
 
-  -- the same of what `take_out` leaves
-  pub take-left : (s′ : List ℤ) (t′ : List ℕ) → t′ ≡ taken → s′ ≡ fresh W H t′ → Standing W H s′ t′
-  take-left s′ t′ e d = standing-of W H s′ t′ (subst (SoundTable W H) (sym e) left-table) d
-
   -- A CELL IS THEN OCCUPIED IF IT WAS AND THE MODULE HAD IT NOT
   pub take-occupied : (x y : ℕ) → occupied taken x y ≡ (occupied t x y && not (covers (rectOf t i) x y))
   take-occupied x y = occupied-less taken t i (rectOf t i) taken-less x y
@@ -173,26 +169,20 @@ module _ (W H : ℕ) (s : List ℤ) (t : List ℕ) (i : ℕ) (p : Taking W H s t
   pub take-frame : (c q : ℕ) → c < W → q < H → Spared (rectOf t i) taken c q → cell W (fresh W H taken) c q ≡ cell W s c q
   take-frame c q hc hq k = sym (ap (λ l. cell W l c q) (standing-fresh W H s t (p .standing)) ∙ frame W H taken t i (rectOf t i) taken-less c q hc hq k)
 
--- ==== AN EXCHANGE: the old module taken out, then the new one put into the same slot, or the old one put back
-
--- byte k of a table is a byte of one slot: of slot i, or not
-at-slot : (t u : List ℕ) (i : ℕ) → length t ≡ length u → ((k : ℕ) → k < 8 → byte t i k ≡ byte u i k) → ((k : ℕ) → (k < 8 * i) → getD t k 0 ≡ getD u k 0) → ((k : ℕ) → 8 * i + 8 ≤ k → getD t k 0 ≡ getD u k 0) → t ≡ u
-at-slot t u i e here low high =
-    ext-getD 0 t u e (λ k l.
-    by-less k (8 * i) (low k) (λ a.
-    by-less k (8 * i + 8)
-    (λ b. let q : k ≡ 8 * i + (k - 8 * i) = omega arith in ap (λ n. getD t n 0) q ∙ here (k - 8 * i) (omega arith) ∙ sym (ap (λ n. getD u n 0) q))
-    (high k)))
+-- ==== AN EXCHANGE: the old module taken out, then the new one put into the same slot
 
 -- A RECORD WRITTEN OVER ANOTHER: only the second is left
-pub record-over : (t : List ℕ) (i : ℕ) (a b : List ℕ) → length a ≡ 8 → length b ≡ 8 → 8 * i + 8 ≤ length t → withRecord (withRecord t i a) i b ≡ withRecord t i b
+record-over : (t : List ℕ) (i : ℕ) (a b : List ℕ) → length a ≡ 8 → length b ≡ 8 → 8 * i + 8 ≤ length t → withRecord (withRecord t i a) i b ≡ withRecord t i b
 record-over t i a b ea eb f =
     let n = length-sets t (8 * i) a in
-    at-slot (withRecord (withRecord t i a) i b) (withRecord t i b) i
-    (length-sets (withRecord t i a) (8 * i) b ∙ n ∙ sym (length-sets t (8 * i) b))
-    (λ k l. record-byte (withRecord t i a) i b eb (omega arith) k l ∙ sym (record-byte t i b eb f k l))
-    (λ k l. sets-low 0 b (withRecord t i a) (8 * i) k l ∙ sets-low 0 a t (8 * i) k l ∙ sym (sets-low 0 b t (8 * i) k l))
-    (λ k l. sets-high 0 b (withRecord t i a) (8 * i) k (omega arith) ∙ sets-high 0 a t (8 * i) k (omega arith) ∙ sym (sets-high 0 b t (8 * i) k (omega arith)))
+    let u = withRecord t i a in
+    ext-getD 0 (withRecord u i b) (withRecord t i b) (length-sets u (8 * i) b ∙ n ∙ sym (length-sets t (8 * i) b)) (λ k l.
+    by-less k (8 * i) (λ h. sets-low 0 b u (8 * i) k h ∙ sets-low 0 a t (8 * i) k h ∙ sym (sets-low 0 b t (8 * i) k h)) (λ g.
+    by-less k (8 * i + 8)
+    (λ h.
+    let e : k ≡ 8 * i + (k - 8 * i) = omega arith in
+    ap (λ n. getD (withRecord u i b) n 0) e ∙ record-byte u i b eb (omega arith) (k - 8 * i) (omega arith) ∙ sym (ap (λ n. getD (withRecord t i b) n 0) e ∙ record-byte t i b eb f (k - 8 * i) (omega arith)))
+    (λ h. sets-high 0 b u (8 * i) k (omega arith) ∙ sets-high 0 a t (8 * i) k (omega arith) ∙ sym (sets-high 0 b t (8 * i) k (omega arith)))))
 
 -- all cells of a rectangle are empty if each of them is
 empty-of : (occ : ℕ → ℕ → Bool) (r : Rect) → ((x y : ℕ) → covers r x y ≡ true → occ x y ≡ false) → cellsEmpty occ r ≡ true
@@ -201,10 +191,6 @@ empty-of occ r h = cellsEmpty-yes occ 0 0 r (λ x y a b c d. h x y (covers-in r 
 module _ (W H : ℕ) (s : List ℤ) (t : List ℕ) (i : ℕ) (p : Taking W H s t i) where
   abbrev gone : List ℕ
   gone = withRecord t i freeRecord
-
-  -- the record of the module that is taken out
-  abbrev old : List ℕ
-  old = recordOf (byte t i 0) (byte t i 1) (rectOf t i) (kindOf t i)
 
   -- THE ID IS THEN PLACED NO MORE
   pub id-gone : idPlaced gone (idOf t i) ≡ false
@@ -219,57 +205,25 @@ module _ (W H : ℕ) (s : List ℤ) (t : List ℕ) (i : ℕ) (p : Taking W H s t
       (eq-eqb (idOf t i) (idOf t j) (sym (sym (alike-id a j ne) ∙ eqb-true (idOf gone j) (idOf t i) (and-right (usedSlot gone j) (eqb (idOf gone j) (idOf t i)) e)))))
       (ids-told t (standing-table W H s t (p .standing) .idsAre) i j (p .slot) (omega (arith, alike-slots a)) (λ z. ne (sym z))))))
 
-  -- A MODULE UNDER ITS ID MAY BE PUT INTO ITS SLOT WHEREVER ALL CELLS ARE EMPTY THEN: s′ and t′ are what `take_out` left
-  pub exchange-placing : (low high : ℕ) (r : Rect) (kind : ℕ) → kind ≤ 1 → low + 256 * high ≡ idOf t i → On W H r → cellsEmpty (occupied gone) r ≡ true →
-      (s′ : List ℤ) (t′ : List ℕ) → t′ ≡ gone → s′ ≡ fresh W H t′ → Placing W H s′ t′ i low high r kind
-  exchange-placing low high r kind k id place free s′ t′ e d =
+  -- what was empty with it is empty without it
+  gone-empty : (r : Rect) → cellsEmpty (occupied t) r ≡ true → cellsEmpty (occupied gone) r ≡ true
+  gone-empty r e = empty-of (occupied gone) r (λ x y k. take-occupied W H s t i p x y ∙ ap (λ b. b && not (covers (rectOf t i) x y)) (empty-at (occupied t) r e x y k))
+
+  -- A MODULE UNDER ITS ID MAY THEN BE PUT INTO ITS SLOT, wherever all cells were empty with the old one there
+  pub exchange-placing : (low high : ℕ) (r : Rect) (kind : ℕ) → kind ≤ 1 → low + 256 * high ≡ idOf t i → On W H r → cellsEmpty (occupied t) r ≡ true →
+      Placing W H (fresh W H gone) gone i low high r kind
+  exchange-placing low high r kind k id place free =
       let o = taken-less W H s t i p in
-      let n : Placing W H (fresh W H gone) gone i low high r kind = record {
+      record {
         standing = take-stands W H s t i p;
         slot = o .slot;
         unused = o .unused;
         place = place;
-        empty = free;
+        empty = gone-empty r free;
         some = omega (arith, id, taken-sound W H s t i p .id);
         new = ap (idPlaced gone) id ∙ id-gone;
         known = k;
-      } in
-      subst₂ (λ a b. Placing W H a b i low high r kind) (sym (d ∙ ap (fresh W H) e)) (sym e) n
-
-  -- THE OLD MODULE MAY BE PUT BACK
-  pub back-placing : (low high : ℕ) (m : Rect) (kind : ℕ) → kind ≤ 1 → low + 256 * high ≡ idOf t i → m ≡ rectOf t i →
-      (s′ : List ℤ) (t′ : List ℕ) → t′ ≡ gone → s′ ≡ fresh W H t′ → Placing W H s′ t′ i low high m kind
-  back-placing low high m kind k id is s′ t′ e d =
-      subst (λ m. Placing W H s′ t′ i low high m kind) (sym is)
-      (exchange-placing low high (rectOf t i) kind k id (taken-sound W H s t i p .place) (empty-of (occupied gone) (rectOf t i) (taken-less W H s t i p .alone)) s′ t′ e d)
-
-  -- AND IT IS THE OLD TABLE AGAIN
-  pub back-table : withRecord gone i old ≡ t
-  back-table =
-      let f = slot-fits (p .standing) (p .slot) in
-      let n = length-sets t (8 * i) freeRecord in
-      record-over t i freeRecord old refl refl f
-      ∙ at-slot (withRecord t i old) t i (length-sets t (8 * i) old) (λ k l. record-byte t i old refl f k l ∙ old-byte k l)
-      (λ k l. sets-low 0 old t (8 * i) k l) (λ k l. sets-high 0 old t (8 * i) k l)
-    where
-      old-byte : (k : ℕ) → k < 8 → getD old k 0 ≡ byte t i k
-      old-byte zero l = refl
-      old-byte (suc zero) l = refl
-      old-byte (suc (suc zero)) l = refl
-      old-byte (suc (suc (suc zero))) l = refl
-      old-byte (suc (suc (suc (suc zero)))) l = refl
-      old-byte (suc (suc (suc (suc (suc zero))))) l = refl
-      old-byte (suc (suc (suc (suc (suc (suc zero)))))) l = refl
-      old-byte (suc (suc (suc (suc (suc (suc (suc zero))))))) l = sym (eqb-true (byte t i 7) 0 (taken-sound W H s t i p .spare))
-      old-byte (suc (suc (suc (suc (suc (suc (suc (suc k)))))))) l = absurd (omega arith)
-
-  -- AND ALL IS AS IT WAS: s″ and t″ are what `put_in` left
-  pub back-left : (low high : ℕ) (m : Rect) (kind : ℕ) → low ≡ byte t i 0 → high ≡ byte t i 1 → m ≡ rectOf t i → kind ≡ kindOf t i →
-      (t′ : List ℕ) → t′ ≡ gone → (s″ : List ℤ) (t″ : List ℕ) → t″ ≡ withRecord t′ i (recordOf low high m kind) → s″ ≡ fresh W H t″ → (t″ ≡ t) × (s″ ≡ s)
-  back-left low high m kind a b is k t′ e s″ t″ f d =
-      let old-of : recordOf low high m kind ≡ old = rw (a, b, is, k) in
-      let q : t″ ≡ t = f ∙ ap₂ (λ u r. withRecord u i r) e old-of ∙ back-table in
-      (q, d ∙ ap (fresh W H) q ∙ sym (standing-fresh W H s t (p .standing)))
+      }
 
   -- a new module in the place of the old one: the record is written over the old one
   pub exchange-table : (low high : ℕ) (r : Rect) (kind : ℕ) → withRecord gone i (recordOf low high r kind) ≡ withRecord t i (recordOf low high r kind)

@@ -1,5 +1,5 @@
 -- WHAT A REQUEST OF EACH OPERATION COMES TO: which of 11 to 23 can apply to operation n is computed from n. Assumes nothing.
-use mathlib.Core.Path.{_≡_, refl, sym, ap, ap₂, _∙_, subst}
+use mathlib.Core.Path.{_≡_, refl, sym, ap, _∙_, subst}
 use mathlib.Core.Bool.{true, false, not, _&&_, _||_, false≢true}
 use mathlib.Core.List.{List, [], _∷_, _++_}
 use Prim.Native.Nat.{ℕ, _+_, _*_, _≤_, _<_}
@@ -13,7 +13,7 @@ use Rattle.rules.specs.Surface.{Standing, slots, isHard, occupied}
 use Rattle.rules.specs.Empties.{cellsEmpty}
 use Rattle.rules.specs.Judging.{Line, _when_, first}
 use Rattle.meaning.specs.Numbers.{above}
-use Rattle.rules.specs.Requests.{operation, ruleOf, idAsked, wide, high, byte6, byte7, isPlace, isRemove, isPin, isExchange, isSet, byRule, atPlace, needsOld, hasSize, zeros, pinned, idPlaced, slotOf, someFree, lowestFree, ground, position, rulePlace, anyCellTaken, soundLines, placeLines, judging, acceptedStep, judgedTo, stepOf}
+use Rattle.rules.specs.Requests.{operation, ruleOf, idAsked, wide, high, byte6, byte7, isPlace, isRemove, isPin, isExchange, isSet, byRule, atPlace, needsOld, hasSize, zeros, pinned, idPlaced, slotOf, someFree, lowestFree, position, rulePlace, anyCellTaken, soundLines, placeLines, judging, acceptedStep, judgedTo, stepOf}
 use Rattle.rules.specs.Place.{placeStep, pinStep}
 use Rattle.rules.specs.declared.Step.{Step}
 use Rattle.rules.specs.declared.Step.the-variants.{Refused}
@@ -22,7 +22,7 @@ use Rattle.meaning.proofs.First.{first-stop, first-over}
 use Rattle.meaning.specs.Change.{OldModule}
 use Rattle.meaning.proofs.Splits.{by-or, by-same}
 use Rattle.meaning.proofs.Tables.{lowest-some}
-use Rattle.meaning.proofs.Steps.{asking, then-false, sizes, AtPlace, at-place, Asked, asked, old-there, stepOn, step-refused, ground-for, ground-same}
+use Rattle.meaning.proofs.Steps.{asking, then-false, sizes, AtPlace, at-place, Asked, asked, old-there, doneFor, step-refused}
 use Rattle.meaning.proofs.Steps.Asked.{place, remove, there, exchange}
 
 -- ---- which operation is which
@@ -70,7 +70,7 @@ module _ (t q : List ℕ) (e : first (soundLines t q) ≡ 0) where
   pub old-in : (W H : ℕ) (s : List ℤ) → Standing W H s t → needsOld q ≡ true → (i : ℕ) → i ≡ slotOf t (idAsked q) → OldModule W H s t q i
   old-in W H s d o i f = subst (OldModule W H s t q) (sym f) (old-there W H s t q d (asking t q e) o)
 
--- ---- the lines for an operation n, where g is the ground on which its place is judged
+-- ---- the lines for an operation n
 
 module _ (W H : ℕ) (t q : List ℕ) where
   abbrev soundFor : ℕ → List Line
@@ -85,39 +85,41 @@ module _ (W H : ℕ) (t q : List ℕ) where
       17 when (((eqb n 1 || eqb n 4) || (eqb n 3 || eqb n 6)) && (eqb (wide q) 0 || eqb (high q) 0)) ∷
       []
 
-  abbrev placeFor : List ℕ → ℕ → List Line
-  placeFor g n =
+  abbrev placeFor : ℕ → List Line
+  placeFor n =
       18 when ((eqb n 3 || eqb n 6) && (ltb W (byte6 q + wide q) || ltb H (byte7 q + high q))) ∷
       19 when ((eqb n 1 || (eqb n 3 || eqb n 6)) && not (someFree t)) ∷
-      20 when ((eqb n 1 || eqb n 4) && not (position (occupied g) W H (wide q) (high q))) ∷
-      21 when ((eqb n 3 || eqb n 6) && not (cellsEmpty (occupied g) (pinned q))) ∷
-      22 when ((eqb n 1 || eqb n 4) && anyCellTaken (occupied g) (rulePlace (occupied g) W H (ruleOf q) (wide q) (high q))) ∷
+      20 when ((eqb n 1 || eqb n 4) && not (position (occupied t) W H (wide q) (high q))) ∷
+      21 when ((eqb n 3 || eqb n 6) && not (cellsEmpty (occupied t) (pinned q))) ∷
+      22 when ((eqb n 1 || eqb n 4) && anyCellTaken (occupied t) (rulePlace (occupied t) W H (ruleOf q) (wide q) (high q))) ∷
       []
 
-  -- what operation n comes to on the ground g, once 11 to 17 and 23 are out of the way
-  abbrev pub judgedFor : List ℕ → ℕ → Step
-  judgedFor g n = judgedTo (first (placeFor g n)) (stepOn W H t q g n)
+  -- what operation n comes to, once 11 to 17 and 23 are out of the way
+  abbrev pub judgedFor : ℕ → Step
+  judgedFor n = judgedTo (first (placeFor n)) (doneFor W H t q n)
 
-  pub step-by : first (soundLines t q) ≡ 0 → (g : List ℕ) → ground t q ≡ g → (n : ℕ) → operation q ≡ n → stepOf W H t q ≡ judgedFor g n
+  pub step-by : first (soundLines t q) ≡ 0 → (n : ℕ) → operation q ≡ n → stepOf W H t q ≡ judgedFor n
   unfolding stepOf placeLines acceptedStep
-  step-by s g f n e = ap (λ c. judgedTo c (acceptedStep W H t q)) (first-over (soundLines t q) (placeLines W H t q) (unfold soundLines above in refl) s) ∙ ap₂ judgedFor f e
+  step-by s n e = ap (λ c. judgedTo c (acceptedStep W H t q)) (first-over (soundLines t q) (placeLines W H t q) (unfold soundLines above in refl) s) ∙ ap judgedFor e
 
   -- a set comes to what a pin does
-  pub step-there-by : first (soundLines t q) ≡ 0 → AtPlace q → stepOf W H t q ≡ judgedFor t 3
-  step-there-by s a =
-      let g = ground-same t q (a .noExchange) in
-      by-or (isPin q) (isSet q) (a .at) (λ p. step-by s t g 3 (eqb-true (operation q) 3 p)) (λ p. step-by s t g 6 (eqb-true (operation q) 6 p))
+  pub step-there-by : first (soundLines t q) ≡ 0 → AtPlace q → stepOf W H t q ≡ judgedFor 3
+  step-there-by s a = by-or (isPin q) (isSet q) (a .at) (λ p. step-by s 3 (eqb-true (operation q) 3 p)) (λ p. step-by s 6 (eqb-true (operation q) 6 p))
 
   pub step-unsound : (c : ℕ) → c ≡ first (soundLines t q) → (c ≡ 0 → ⊥) → Refused c ≡ stepOf W H t q
   step-unsound c e n =
       let j : first (judging W H t q) ≡ c = first-stop (soundLines t q) (placeLines W H t q) (λ z. n (e ∙ z)) ∙ sym e in
       ap Refused (sym j) ∙ sym (step-refused W H t q (λ z. n (sym j ∙ z)))
 
+  -- what operation n comes to by all its lines
+  abbrev judgedOf : ℕ → Step
+  judgedOf n = judgedTo (first (soundFor n ++ placeFor n)) (doneFor W H t q n)
+
   -- A REQUEST FOR A PLACE COMES TO WHAT THE PLACE IN NUMBERS COMES TO, where 12 and 13 do not refuse it
   pub place-in-numbers : operation q ≡ 1 → all (eqb 0) (zeros q) ≡ true → ruleOf q ≤ 2 → stepOf W H t q ≡ placeStep W H t (idAsked q) (ruleOf q) (wide q) (high q)
   unfolding stepOf soundLines placeLines acceptedStep placeStep first
   place-in-numbers e z r =
-      ap₂ (λ g n. judgedTo (first (soundFor n ++ placeFor g n)) (stepOn W H t q g n)) (ground-for t q 1 e) e ∙ rw (z, le-ltb 2 (ruleOf q) r)
+      ap judgedOf e ∙ rw (z, le-ltb 2 (ruleOf q) r)
 
   -- the byte that must be zero
   rule-zero : AtPlace q → all (eqb 0) (zeros q) ≡ eqb (ruleOf q) 0
@@ -130,9 +132,7 @@ module _ (W H : ℕ) (t q : List ℕ) where
   pub step-there-is : AtPlace q → stepOf W H t q ≡ pinStep W H t q
   unfolding stepOf soundLines placeLines acceptedStep pinStep first
   step-there-is a =
-      let by : List ℕ → ℕ → Step = λ g n. judgedTo (first (soundFor n ++ placeFor g n)) (stepOn W H t q g n) in
-      ap (λ g. by g (operation q)) (ground-same t q (a .noExchange))
-      ∙ by-or (isPin q) (isSet q) (a .at) (λ p. ap (by t) (eqb-true (operation q) 3 p) ∙ rw (rule-zero a)) (λ p. ap (by t) (eqb-true (operation q) 6 p) ∙ rw (rule-zero a))
+      by-or (isPin q) (isSet q) (a .at) (λ p. ap judgedOf (eqb-true (operation q) 3 p) ∙ rw (rule-zero a)) (λ p. ap judgedOf (eqb-true (operation q) 6 p) ∙ rw (rule-zero a))
 
 -- so a set comes to what the pin with the same fields comes to
 pub set-step : (W H : ℕ) (t q : List ℕ) → isSet q ≡ true → stepOf W H t q ≡ stepOf W H t (3 ∷ drop 1 q)

@@ -13,7 +13,7 @@ use Rattle.rules.specs.Surface.{Standing, slots, rectOf, kindOf, isHard, freeRe
 use Rattle.rules.specs.Empties.{cellsEmpty, empty, onSurface, Empty}
 use Rattle.rules.specs.Judging.{first, NoneApplies}
 use Rattle.meaning.specs.Numbers.{above}
-use Rattle.rules.specs.Requests.{codeOf, isPlace, isRemove, isPin, isExchange, isSet, operation, ruleOf, idLow, idHigh, idAsked, wide, high, byte6, byte7, known, byRule, atPlace, makesNew, needsOld, hasSize, pinned, kindAsked, idPlaced, slotOf, someFree, lowestFree, ground, position, rulePlace, soundLines, placeLines, judging, orNone, acceptedStep, stepOf, recordAfter, tableAfter}
+use Rattle.rules.specs.Requests.{codeOf, isPlace, isRemove, isPin, isExchange, isSet, operation, ruleOf, idLow, idHigh, idAsked, wide, high, byte6, byte7, known, byRule, atPlace, makesNew, needsOld, hasSize, pinned, kindAsked, idPlaced, slotOf, someFree, lowestFree, position, rulePlace, soundLines, placeLines, judging, orNone, acceptedStep, stepOf, recordAfter, tableAfter}
 use Rattle.rules.specs.declared.Rect.{Rect}
 use Rattle.rules.specs.declared.Step.{Step}
 use Rattle.rules.specs.declared.Step.the-variants.{Refused, Done}
@@ -53,8 +53,8 @@ asking t q e =
 pub record Fitting (W H : ℕ) (t q : List ℕ) : Type 0 where
   pub on : (atPlace q && (ltb W (byte6 q + wide q) || ltb H (byte7 q + high q))) ≡ false
   pub room : (makesNew q && not (someFree t)) ≡ false
-  pub position : (byRule q && not (position (occupied (ground t q)) W H (wide q) (high q))) ≡ false
-  pub clear : (atPlace q && not (cellsEmpty (occupied (ground t q)) (pinned q))) ≡ false
+  pub position : (byRule q && not (position (occupied t) W H (wide q) (high q))) ≡ false
+  pub clear : (atPlace q && not (cellsEmpty (occupied t) (pinned q))) ≡ false
 
 pub fitting : (W H : ℕ) (t q : List ℕ) → first (placeLines W H t q) ≡ 0 → Fitting W H t q
 unfolding placeLines NoneApplies
@@ -117,29 +117,25 @@ pub step-accepted : (W H : ℕ) (t q : List ℕ) → first (judging W H t q) ≡
 unfolding stepOf
 step-accepted W H t q e = ap (λ c. cond (eqb c 0) (acceptedStep W H t q) (Refused c)) e
 
--- the table without the module that an exchange asks for
-abbrev pub without : List ℕ → List ℕ → List ℕ
-without t q = withRecord t (slotOf t (idAsked q)) freeRecord
-
 module _ (W H : ℕ) (t q : List ℕ) where
   abbrev pub old : ℕ
   old = slotOf t (idAsked q)
 
-  abbrev pub chosenOn : List ℕ → Rect
-  chosenOn g = orNone (rulePlace (occupied g) W H (ruleOf q) (wide q) (high q))
+  abbrev pub chosen : Rect
+  chosen = orNone (rulePlace (occupied t) W H (ruleOf q) (wide q) (high q))
 
-  -- what is done by operation n, where g is the ground
-  abbrev pub stepOn : List ℕ → ℕ → Step
-  stepOn g n =
-      cond (eqb n 1) (Done (lowestFree t) (chosenOn g))
+  -- what is done by operation n
+  abbrev pub doneFor : ℕ → Step
+  doneFor n =
+      cond (eqb n 1) (Done (lowestFree t) chosen)
       (cond (eqb n 2) (Done old (rectOf t old))
       (cond (eqb n 3 || eqb n 6) (Done (lowestFree t) (pinned q))
-      (cond (eqb n 4) (Done old (chosenOn g))
+      (cond (eqb n 4) (Done old chosen)
       (Refused 11))))
 
-  pub step-for : (n : ℕ) → operation q ≡ n → acceptedStep W H t q ≡ stepOn (ground t q) n
+  pub step-for : (n : ℕ) → operation q ≡ n → acceptedStep W H t q ≡ doneFor n
   unfolding acceptedStep
-  step-for n e = ap (stepOn (ground t q)) e
+  step-for n e = ap doneFor e
 
   step-there : AtPlace q → acceptedStep W H t q ≡ Done (lowestFree t) (pinned q)
   unfolding acceptedStep
@@ -179,25 +175,15 @@ module _ (W H : ℕ) (t q : List ℕ) where
       (λ z. done-refused _ _ c (sym e ∙ done-is z .2))
       (λ ne. omega (arith, refused-same _ c (sym (step-refused W H t q ne) ∙ e), first-above 10 (judging W H t q) (unfold soundLines placeLines above in refl) ne))
 
--- the table on which its place is judged
-pub ground-for : (t q : List ℕ) (n : ℕ) → operation q ≡ n → ground t q ≡ cond (eqb n 4) (without t q) t
-unfolding ground
-ground-for t q n e = ap (λ n. cond (eqb n 4) (without t q) t) e
-
--- all but an exchange are judged on the surface as it is
-pub ground-same : (t q : List ℕ) → isExchange q ≡ false → ground t q ≡ t
-unfolding ground
-ground-same t q e = rw e
-
 -- WHAT A REQUEST COMES TO
 pub data Came (W H : ℕ) (s : List ℤ) (t q : List ℕ) : Type 0 where
   refused : (first (judging W H t q) ≡ 0 → ⊥) → stepOf W H t q ≡ Refused (first (judging W H t q)) → Came W H s t q
-  placed : (r : Rect) → operation q ≡ 1 → stepOf W H t q ≡ Done (lowestFree t) r → rulePlace (occupied (ground t q)) W H (ruleOf q) (wide q) (high q) ≡ some r →
+  placed : (r : Rect) → operation q ≡ 1 → stepOf W H t q ≡ Done (lowestFree t) r → rulePlace (occupied t) W H (ruleOf q) (wide q) (high q) ≡ some r →
       Placing W H s t (lowestFree t) (idLow q) (idHigh q) r (kindAsked q) → Came W H s t q
   removed : operation q ≡ 2 → stepOf W H t q ≡ Done (slotOf t (idAsked q)) (rectOf t (slotOf t (idAsked q))) → OldModule W H s t q (slotOf t (idAsked q)) → Came W H s t q
   put : AtPlace q → stepOf W H t q ≡ Done (lowestFree t) (pinned q) → Placing W H s t (lowestFree t) (idLow q) (idHigh q) (pinned q) (kindAsked q) → Came W H s t q
-  exchanged : (r : Rect) → operation q ≡ 4 → stepOf W H t q ≡ Done (slotOf t (idAsked q)) r → rulePlace (occupied (ground t q)) W H (ruleOf q) (wide q) (high q) ≡ some r →
-      OldModule W H s t q (slotOf t (idAsked q)) → On W H r → cellsEmpty (occupied (without t q)) r ≡ true → Came W H s t q
+  exchanged : (r : Rect) → operation q ≡ 4 → stepOf W H t q ≡ Done (slotOf t (idAsked q)) r → rulePlace (occupied t) W H (ruleOf q) (wide q) (high q) ≡ some r →
+      OldModule W H s t q (slotOf t (idAsked q)) → On W H r → cellsEmpty (occupied t) r ≡ true → Came W H s t q
 
 -- the kind of what a request puts in
 pub kind-is : (q : List ℕ) (b : Bool) → isSet q ≡ b → kindAsked q ≡ cond b 1 0
@@ -236,12 +222,12 @@ module _ (W H : ℕ) (s : List ℤ) (t q : List ℕ) (d : Standing W H s t) (a :
 
   module _ (f : Fitting W H t q) where
     -- a place by rule
-    chosen-place : byRule q ≡ true → hasSize q ≡ true → (r : Rect) × (rulePlace (occupied (ground t q)) W H (ruleOf q) (wide q) (high q) ≡ some r) × Empty (occupied (ground t q)) W H r
+    chosen-place : byRule q ≡ true → hasSize q ≡ true → (r : Rect) × (rulePlace (occupied t) W H (ruleOf q) (wide q) (high q) ≡ some r) × Empty (occupied t) W H r
     chosen-place e h =
         let z = sizes t q a h in
-        let p : position (occupied (ground t q)) W H (wide q) (high q) ≡ true = not-false _ (then-false (byRule q) _ e (f .position)) in
-        let r = rule-finds (occupied (ground t q)) W H (ruleOf q) (wide q) (high q) (z .0) (z .1) .1 p in
-        (r .0, r .1, rulePlace-empty (occupied (ground t q)) W H (ruleOf q) (wide q) (high q) (z .0) (z .1) (r .0) (r .1))
+        let p : position (occupied t) W H (wide q) (high q) ≡ true = not-false _ (then-false (byRule q) _ e (f .position)) in
+        let r = rule-finds (occupied t) W H (ruleOf q) (wide q) (high q) (z .0) (z .1) .1 p in
+        (r .0, r .1, rulePlace-empty (occupied t) W H (ruleOf q) (wide q) (high q) (z .0) (z .1) (r .0) (r .1))
 
     -- a new module may be put into the lowest free slot
     placing : makesNew q ≡ true → (r : Rect) → On W H r → cellsEmpty (occupied t) r ≡ true → Placing W H s t (lowestFree t) (idLow q) (idHigh q) r (kindAsked q)
@@ -262,23 +248,21 @@ module _ (W H : ℕ) (s : List ℤ) (t q : List ℕ) (d : Standing W H s t) (a :
     came-for : first (judging W H t q) ≡ 0 → Asked q → Came W H s t q
     came-for z (place e) =
         let c = chosen-place (ap (λ n. eqb n 1 || eqb n 4) e) (ap (λ n. (eqb n 1 || eqb n 4) || (eqb n 3 || eqb n 6)) e) in
-        let g : ground t q ≡ t = ground-for t q 1 e in
-        let p = empty-parts (occupied t) W H (c .0) (subst (λ u. Empty (occupied u) W H (c .0)) g (c .2)) in
+        let p = empty-parts (occupied t) W H (c .0) (c .2) in
         placed (c .0) e (step-accepted W H t q z ∙ step-for W H t q 1 e ∙ ap (λ o. Done (lowestFree t) (orNone o)) (c .1)) (c .1)
         (placing (ap (λ n. eqb n 1 || (eqb n 3 || eqb n 6)) e) (c .0) (p .0) (p .1))
     came-for z (remove e) = removed e (step-accepted W H t q z ∙ step-for W H t q 2 e) (old-there (ap (λ n. eqb n 2 || eqb n 4) e))
     came-for z (there e) =
         let n = sizes t q a (or-right (byRule q) (atPlace q) (e .at)) in
         let b = or-neither (ltb W (byte6 q + wide q)) (ltb H (byte7 q + high q)) (then-false (atPlace q) _ (e .at) (f .on)) in
-        let c : cellsEmpty (occupied (ground t q)) (pinned q) ≡ true = not-false _ (then-false (atPlace q) _ (e .at) (f .clear)) in
+        let c : cellsEmpty (occupied t) (pinned q) ≡ true = not-false _ (then-false (atPlace q) _ (e .at) (f .clear)) in
         put e (step-accepted W H t q z ∙ step-there W H t q e)
         (placing (or-right (isPlace q) (atPlace q) (e .at)) (pinned q)
         (record { wide = n .0; tall = n .1; columns = ltb-false W (byte6 q + wide q) (b .0); lines = ltb-false H (byte7 q + high q) (b .1) })
-        (subst (λ u. cellsEmpty (occupied u) (pinned q) ≡ true) (ground-same t q (e .noExchange)) c))
+        c)
     came-for z (exchange e) =
         let c = chosen-place (ap (λ n. eqb n 1 || eqb n 4) e) (ap (λ n. (eqb n 1 || eqb n 4) || (eqb n 3 || eqb n 6)) e) in
-        let g : ground t q ≡ without t q = ground-for t q 4 e in
-        let p = empty-parts (occupied (without t q)) W H (c .0) (subst (λ u. Empty (occupied u) W H (c .0)) g (c .2)) in
+        let p = empty-parts (occupied t) W H (c .0) (c .2) in
         exchanged (c .0) e (step-accepted W H t q z ∙ step-for W H t q 4 e ∙ ap (λ o. Done (slotOf t (idAsked q)) (orNone o)) (c .1)) (c .1)
         (old-there (ap (λ n. eqb n 2 || eqb n 4) e)) (p .0) (p .1)
 
@@ -308,8 +292,8 @@ module _ (W H : ℕ) (s : List ℤ) (t q : List ℕ) (d : Standing W H s t) (i :
     | placed m o z c p ↦ told (lowestFree t) m z (puts (newcomer-place q o) refl p)
     | put o z p ↦ told (lowestFree t) (pinned q) z (puts (newcomer-there q o) refl p)
     | removed o z p ↦ told (slotOf t (idAsked q)) (rectOf t (slotOf t (idAsked q))) z (takes (ap (λ n. eqb n 2) o) (ap (λ n. eqb n 4) o) p refl)
-    | exchanged m o z c p on free ↦ told (slotOf t (idAsked q)) m z (swaps (ap (λ n. eqb n 2) o) (ap (λ n. eqb n 4) o) p
-        (exchange-placing W H s t (slotOf t (idAsked q)) (p .taking) (idLow q) (idHigh q) m (kindAsked q) (kind-known q) (sym (p .named)) on free (fresh W H (without t q)) (without t q) refl refl))
+    | exchanged m o z c p on free ↦ told (slotOf t (idAsked q)) m z (swaps (ap (λ n. eqb n 2) o) (ap (λ n. eqb n 4) o) p free
+        (exchange-placing W H s t (slotOf t (idAsked q)) (p .taking) (idLow q) (idHigh q) m (kindAsked q) (kind-known q) (sym (p .named)) on free))
   ]
 
 -- the record that is written
@@ -364,7 +348,7 @@ step-stands W H q a (Done i r) k z =
     elim (change W H s t q z i r (accepted-as i r _ k)) [
       | puts n l p ↦ by _ (put-leaves W H s t q i r (n .noRemove)) (put-stands W H s t i (idLow q) (idHigh q) r (kindAsked q) p)
       | takes o x p m ↦ by _ (take-leaves W H s t q i r o) (take-stands W H s t i (p .taking))
-      | swaps o x p n ↦ by _ (swap-leaves W H s t q i r o (p .taking)) (put-stands W H _ _ i (idLow q) (idHigh q) r (kindAsked q) n)
+      | swaps o x p v n ↦ by _ (swap-leaves W H s t q i r o (p .taking)) (put-stands W H _ _ i (idLow q) (idHigh q) r (kindAsked q) n)
     ]
 
 -- ---- a block, by any stricter step function

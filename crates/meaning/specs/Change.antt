@@ -67,9 +67,9 @@ pub record OldModule (W H : ℕ) (s : List ℤ) (t q : List ℕ) (i : ℕ) : Typ
   pub soft : isHard t i ≡ false
   pub taking : Taking W H s t i
 
--- WHAT AN ACCEPTED REQUEST q DOES: with the slot i and the rectangle r it puts a module in, takes one out, or takes one out and puts one in its place
+-- WHAT AN ACCEPTED REQUEST q DOES: with the slot i and the rectangle r it puts a module in, takes one out, or takes one out and puts another, whose cells were all empty with the old one there, into its slot
 pub data Change (W H : ℕ) (s : List ℤ) (t q : List ℕ) (i : ℕ) (r : Rect) : Type 0 where
   puts : Newcomer q → i ≡ lowestFree t → Placing W H s t i (idLow q) (idHigh q) r (kindAsked q) → Change W H s t q i r
   takes : isRemove q ≡ true → isExchange q ≡ false → OldModule W H s t q i → r ≡ rectOf t i → Change W H s t q i r
-  swaps : isRemove q ≡ false → isExchange q ≡ true → OldModule W H s t q i →
+  swaps : isRemove q ≡ false → isExchange q ≡ true → OldModule W H s t q i → cellsEmpty (occupied t) r ≡ true →
       Placing W H (fresh W H (withRecord t i freeRecord)) (withRecord t i freeRecord) i (idLow q) (idHigh q) r (kindAsked q) → Change W H s t q i r

@@ -1,67 +1,72 @@
--- WHAT AN ACCEPTED REQUEST TELLS: its change may be made. And what serving leaves: a surface that stands. Assumes nothing.
-use mathlib.Core.Path.{_≡_, refl, sym, ap, ap₂, _∙_, subst, subst₂}
-use mathlib.Core.Bool.{true, false}
+-- THE CHANGE OF AN ACCEPTED REQUEST may be made, half by half. And what serving leaves: a surface that stands. Assumes nothing.
+use mathlib.Core.Path.{_≡_, sym, ap, ap₂, _∙_, subst, subst₂}
+use mathlib.Core.Bool.{Bool, true, false, cond, _||_}
 use mathlib.Core.List.{List}
 use Prim.Native.Nat.{ℕ}
 use native.Mathlib.Omega.{arith}
-use borrow.Author.Tests.{ne-eqb, eqb-true}
 use lib.IntN.{ℤ}
 use Rattle.rules.specs.Surface.{Standing, recordOf, freeRecord, withRecord, fresh}
-use Rattle.rules.specs.Requests.{operation, idLow, idHigh, kindAsked, isExchange, ground, stepOf, answerOf, recordAfter, tableAfter, weightsAfter, acceptedOne, isRemove}
+use Rattle.rules.specs.Requests.{idLow, idHigh, isRemove, isExchange, needsOld, kindAsked, stepOf, answerOf, recordAfter, tableAfter, weightsAfter, acceptedOne}
 use Rattle.rules.specs.declared.Rect.{Rect}
 use Rattle.rules.specs.declared.Step.{Step}
-use Rattle.rules.specs.declared.Step.the-variants.{Done}
-use Rattle.meaning.specs.Change.{On, Placing, OldModule, Change}
+use Rattle.meaning.specs.Change.{On, Placing, Taking, Change}
 use Rattle.table.specs.Record.{Bytes}
 use Rattle.meaning.proofs.Stands.{standing-fresh}
-use Rattle.meaning.proofs.Changes.{taken-sound, exchange-table}
+use Rattle.meaning.proofs.Changes.{taken-sound}
 use Rattle.meaning.specs.Change.Change.{puts, takes, swaps}
-use Rattle.meaning.proofs.Steps.{change, ground-for, ground-same, record-put, step-stands, rules-step}
+use Rattle.meaning.proofs.Steps.{put-leaves, take-leaves, swap-leaves, step-stands, rules-step}
 use Rattle.rules.proofs.Tests.{not-both}
 use Rattle.rules.specs.Blocks.{started}
-use lib.Dec.{eqb}
-use Rattle.requests.specs.Steps.{tableLeft, weightsLeft, Judged, Changing, Served}
+use Rattle.requests.specs.Steps.{Served}
 
--- ---- the change, operation by operation. s′ and t′ are those on which the request was judged
+-- ---- the change of an accepted request, in two halves: the old module out, the new one in. Each half is made by some operations and not by others
 
-pub record Accepted (W H : ℕ) (q t : List ℕ) (i : ℕ) (r : Rect) (s′ : List ℤ) (t′ : List ℕ) : Type 0 where
-  pub changing : Changing W H q s′ t′ i r
-  pub over : withRecord t′ i (recordAfter q r) ≡ withRecord t i (recordAfter q r)
+module _ (W H : ℕ) (s : List ℤ) (t q : List ℕ) (i : ℕ) (r : Rect) (d : Change W H s t q i r) where
+  pub change-standing : Standing W H s t
+  change-standing = elim d [
+    | puts n l p ↦ p .standing
+    | takes o x p m ↦ p .taking .standing
+    | swaps o x p v n ↦ p .taking .standing
+  ]
 
-module _ (W H : ℕ) (s : List ℤ) (t q : List ℕ) (d : Standing W H s t) (i : ℕ) (r : Rect) (s′ : List ℤ) (t′ : List ℕ) (es : s′ ≡ fresh W H t′) (et : t′ ≡ ground t q) where
-  -- all but an exchange: the surface as it was
-  same-accepted : isExchange q ≡ false → Changing W H q s t i r → Accepted W H q t i r s′ t′
-  same-accepted x c =
-      let g : t ≡ t′ = sym (et ∙ ground-same t q x) in
-      subst₂ (λ a b. Accepted W H q t i r a b) (standing-fresh W H s t d ∙ ap (fresh W H) g ∙ sym es) g (record { changing = c; over = refl })
+  pub change-taking : needsOld q ≡ true → Taking W H s t i
+  change-taking e = elim d [
+    | puts n l p ↦ not-both (needsOld q) e (ap₂ _||_ (n .noRemove) (n .noExchange))
+    | takes o x p m ↦ p .taking
+    | swaps o x p v n ↦ p .taking
+  ]
 
-  exchange-accepted : isRemove q ≡ false → isExchange q ≡ true → OldModule W H s t q i →
-      Placing W H (fresh W H (withRecord t i freeRecord)) (withRecord t i freeRecord) i (idLow q) (idHigh q) r (kindAsked q) → Accepted W H q t i r s′ t′
-  exchange-accepted o x p n =
-      let g : t′ ≡ withRecord t i freeRecord = et ∙ ground-for t q 4 (eqb-true (operation q) 4 x) ∙ ap (λ k. withRecord t k freeRecord) (sym (p .at)) in
-      let kept = record-put q r o in
-      record {
-        changing = record {
-          place = n .place;
-          taking = λ v. not-both (isRemove q) (ap (λ k. eqb k 2) v) o;
-          placing = λ _. subst₂ (λ a b. Placing W H a b i (idLow q) (idHigh q) r (kindAsked q)) (sym (es ∙ ap (fresh W H) g)) (sym g) n;
-        };
-        over = ap₂ (λ u v. withRecord u i v) g kept ∙ exchange-table W H s t i (p .taking) (idLow q) (idHigh q) r (kindAsked q) ∙ ap (withRecord t i) (sym kept);
-      }
+  pub change-on : On W H r
+  change-on = elim d [
+    | puts n l p ↦ p .place
+    | takes o x p m ↦ subst (On W H) (sym m) (taken-sound W H s t i (p .taking) .place)
+    | swaps o x p v n ↦ n .place
+  ]
 
-  -- AN ACCEPTED REQUEST'S CHANGE MAY BE MADE
-  pub accepted : stepOf W H t q ≡ Done i r → Accepted W H q t i r s′ t′
-  accepted e = go (change W H s t q d i r e)
-    where
-      go : Change W H s t q i r → Accepted W H q t i r s′ t′
-      go (puts n j p) = same-accepted (n .noExchange) (record { place = p .place; taking = λ v. not-both (isRemove q) (ap (λ k. eqb k 2) v) (n .noRemove); placing = λ _. p })
-      go (takes o x p z) = same-accepted x (record { place = subst (On W H) (sym z) (taken-sound W H s t i (p .taking) .place); taking = λ _. p .taking; placing = λ n. absurd (n (eqb-true (operation q) 2 o)) })
-      go (swaps o x p n) = exchange-accepted o x p n
+  -- s′ and t′ are left by the first half
+  module _ (s′ : List ℤ) (t′ : List ℕ) (et : t′ ≡ cond (needsOld q) (withRecord t i freeRecord) t) (es : s′ ≡ fresh W H t′) where
+    first-half : (b : Bool) → needsOld q ≡ b → t′ ≡ cond b (withRecord t i freeRecord) t
+    first-half b e = et ∙ ap (λ b. cond b (withRecord t i freeRecord) t) e
+
+    -- the second half may be made, and the record that it writes is written over the old one
+    pub second-half : isRemove q ≡ false → Placing W H s′ t′ i (idLow q) (idHigh q) r (kindAsked q) × (withRecord t′ i (recordOf (idLow q) (idHigh q) r (kindAsked q)) ≡ withRecord t i (recordAfter q r))
+    second-half f =
+        let new = recordOf (idLow q) (idHigh q) r (kindAsked q) in
+        let by : (u : List ℕ) → t′ ≡ u → Placing W H (fresh W H u) u i (idLow q) (idHigh q) r (kindAsked q) → Placing W H s′ t′ i (idLow q) (idHigh q) r (kindAsked q) =
+        λ u e. subst₂ (λ a b. Placing W H a b i (idLow q) (idHigh q) r (kindAsked q)) (sym (es ∙ ap (fresh W H) e)) (sym e) in
+        elim d [
+          | puts n l p ↦
+              let e = first-half false (ap₂ _||_ (n .noRemove) (n .noExchange)) in
+              (by t e (subst (λ a. Placing W H a t i (idLow q) (idHigh q) r (kindAsked q)) (standing-fresh W H s t change-standing) p), ap (λ u. withRecord u i new) e ∙ sym (put-leaves W H s t q i r f))
+          | takes o x p m ↦ not-both (isRemove q) o f
+          | swaps o x p v n ↦ let e = first-half true (ap₂ _||_ o x) in (by _ e n, ap (λ u. withRecord u i new) e ∙ sym (swap-leaves W H s t q i r f (p .taking)))
+        ]
+
+    -- a remove is done
+    pub removed : isRemove q ≡ true → t′ ≡ withRecord t i (recordAfter q r)
+    removed f = first-half true (ap (λ b. b || isExchange q) f) ∙ sym (take-leaves W H s t q i r f)
 
 -- ---- what serving leaves
-
-pub record-new : (q : List ℕ) (r : Rect) → (operation q ≡ 2 → ⊥) → recordOf (idLow q) (idHigh q) r (kindAsked q) ≡ recordAfter q r
-record-new q r o = sym (record-put q r (ne-eqb (operation q) 2 o))
 
 -- a place on a surface is four bytes
 pub on-bytes : (W H : ℕ) (s : List ℤ) (t : List ℕ) (r : Rect) → Standing W H s t → On W H r → Bytes r
@@ -71,14 +76,6 @@ on-bytes W H s t r d o = record {
   w = omega (arith, d .sides .widest, o .columns);
   h = omega (arith, d .sides .highest, o .lines);
 }
-
--- what judging left, by the step that it came to
-module _ (W H : ℕ) (q : List ℕ) (s : List ℤ) (t : List ℕ) (s′ : List ℤ) (t′ : List ℕ) (d : Step) (j : Judged W H q s t s′ t′ d) where
-  pub judged-to : (k : Step) → d ≡ k → (stepOf W H t q ≡ k) × (s′ ≡ weightsLeft W H q k t s) × (t′ ≡ tableLeft q k t)
-  judged-to k e = (sym (j .step) ∙ e, j .weights ∙ ap (λ k. weightsLeft W H q k t s) e, j .table ∙ ap (λ k. tableLeft q k t) e)
-
-  pub may-change : Standing W H s t → (i : ℕ) (r : Rect) → d ≡ Done i r → Accepted W H q t i r s′ t′
-  may-change n i r e = let l = judged-to (Done i r) e in accepted W H s t q n i r s′ t′ (l .1 ∙ sym (ap (fresh W H) (l .2))) (l .2) (l .0)
 
 module _ (W H : ℕ) (q : List ℕ) (s : List ℤ) (t : List ℕ) where
   pub served-by : (s′ : List ℤ) (t′ a : List ℕ) (k : Step) → stepOf W H t q ≡ k → s′ ≡ weightsAfter W H q k t s → t′ ≡ tableAfter q k t → a ≡ answerOf q k → Served W H q s t s′ t′ a (acceptedOne k)

@@ -10,28 +10,27 @@ use borrow.Author.Tests.{ltb-false}
 use lib.Dec.{ltb}
 use lib.IntN.{ℤ}
 use lib.ListN.{length}
-use Rattle.rules.specs.Surface.{Standing, rectOf, occupied, fresh}
+use Rattle.rules.specs.Surface.{Standing, rectOf, occupied}
 use Rattle.rules.specs.Empties.{cellsEmpty}
 use Rattle.rules.specs.Judging.{_when_, first}
-use Rattle.rules.specs.Requests.{operation, ruleOf, wide, high, idAsked, isExchange, pinned, slotOf, someFree, lowestFree, ground, position, rulePlace, anyCellTaken, orNone, judgedTo, stepOf}
+use Rattle.rules.specs.Requests.{operation, ruleOf, wide, high, idAsked, pinned, slotOf, someFree, lowestFree, position, rulePlace, anyCellTaken, orNone, judgedTo, stepOf}
 use Rattle.rules.specs.declared.Rect.{Rect}
 use Rattle.rules.specs.declared.Step.{Step}
 use Rattle.rules.specs.declared.Step.the-variants.{Refused, Done}
 use Rattle.rules.proofs.Tests.{or-neither, fails}
 use Rattle.meaning.proofs.Choice.{rule-finds}
 use Rattle.meaning.specs.Change.{On}
-use Rattle.meaning.proofs.Stands.{standing-fresh}
-use Rattle.meaning.proofs.Steps.{AtPlace, ground-for, ground-same}
+use Rattle.meaning.proofs.Steps.{AtPlace}
 use Rattle.meaning.proofs.Operations.{place-by, exchange-by, by-sized, size-some, judgedFor, step-by, step-there-by}
 use Rattle.choice.specs.Best.{codeOf, valuesOf, codeFor, Chosen}
 use Rattle.choice.specs.declared.Choice.{Choice}
 use Rattle.choice.specs.declared.Choice.the-variants.{At, Nowhere}
-use Rattle.requests.specs.Steps.{past, ruleStep, Passes, tableLeft, weightsLeft, Judged}
+use Rattle.requests.specs.Steps.{past, ruleStep, Passes}
 
 -- ---- pin and set
 
 module _ (W H : ℕ) (t q : List ℕ) (s : Passes t q) (a : AtPlace q) where
-  pin-is : stepOf W H t q ≡ judgedFor W H t q t 3
+  pin-is : stepOf W H t q ≡ judgedFor W H t q 3
   pin-is = step-there-by W H t q s a
 
   -- the three tests in their order. Those behind one that refuses may come to anything
@@ -47,7 +46,7 @@ module _ (W H : ℕ) (t q : List ℕ) (s : Passes t q) (a : AtPlace q) where
 
 pub remove-step : (W H : ℕ) (t q : List ℕ) → Passes t q → operation q ≡ 2 → Done (slotOf t (idAsked q)) (rectOf t (slotOf t (idAsked q))) ≡ stepOf W H t q
 unfolding first
-remove-step W H t q s e = sym (step-by W H t q s (ground t q) refl 2 e)
+remove-step W H t q s e = sym (step-by W H t q s 2 e)
 
 -- ---- by rule
 
@@ -69,22 +68,21 @@ rule-step occ W H rule w h i a b = go (rulePlace occ W H rule w h) refl
 module _ (W H : ℕ) (t q : List ℕ) (s : Passes t q) where
   pub place-full : operation q ≡ 1 → someFree t ≡ false → Refused 19 ≡ stepOf W H t q
   unfolding first
-  place-full e f = sym (step-by W H t q s t (ground-for t q 1 e) 1 e ∙ rw f)
+  place-full e f = sym (step-by W H t q s 1 e ∙ rw f)
 
   pub place-rule : operation q ≡ 1 → someFree t ≡ true → (i : ℕ) → i ≡ lowestFree t → (d : Step) →
       d ≡ ruleStep (occupied t) i (rulePlace (occupied t) W H (ruleOf q) (wide q) (high q)) → d ≡ stepOf W H t q
   unfolding first
   place-rule e f i j d k =
       let z = size-some t q s (by-sized q (place-by q e)) in
-      k ∙ rule-step (occupied t) W H (ruleOf q) (wide q) (high q) i (z .0) (z .1) ∙ sym (step-by W H t q s t (ground-for t q 1 e) 1 e ∙ rw (f, sym j))
+      k ∙ rule-step (occupied t) W H (ruleOf q) (wide q) (high q) i (z .0) (z .1) ∙ sym (step-by W H t q s 1 e ∙ rw (f, sym j))
 
-  -- exchange: g is the table without the old module
-  pub exchange-rule : operation q ≡ 4 → (i : ℕ) → i ≡ slotOf t (idAsked q) → (g : List ℕ) → g ≡ ground t q → (d : Step) →
-      d ≡ ruleStep (occupied g) i (rulePlace (occupied g) W H (ruleOf q) (wide q) (high q)) → d ≡ stepOf W H t q
+  pub exchange-rule : operation q ≡ 4 → (i : ℕ) → i ≡ slotOf t (idAsked q) → (d : Step) →
+      d ≡ ruleStep (occupied t) i (rulePlace (occupied t) W H (ruleOf q) (wide q) (high q)) → d ≡ stepOf W H t q
   unfolding first
-  exchange-rule e i j g f d k =
+  exchange-rule e i j d k =
       let z = size-some t q s (by-sized q (exchange-by q e)) in
-      k ∙ rule-step (occupied g) W H (ruleOf q) (wide q) (high q) i (z .0) (z .1) ∙ sym (step-by W H t q s g (sym f) 4 e ∙ rw (sym j))
+      k ∙ rule-step (occupied t) W H (ruleOf q) (wide q) (high q) i (z .0) (z .1) ∙ sym (step-by W H t q s 4 e ∙ rw (sym j))
 
 -- ---- the test of a place
 
@@ -126,17 +124,3 @@ module _ (occ : ℕ → ℕ → Bool) (i : ℕ) (o : Option Rect) where
   pub rule-some : (r : Rect) (b : Bool) → o ≡ some r → cellsEmpty occ r ≡ b → cond b (Done i r) (Refused 22) ≡ ruleStep occ i o
   unfolding ruleStep
   rule-some r b e c = sym (ap (ruleStep occ i) e ∙ ap (λ k. cond k (Done i r) (Refused 22)) c)
-
--- ---- what judging leaves
-
-module _ (W H : ℕ) (q : List ℕ) (s : List ℤ) (t : List ℕ) (d : Step) (e : d ≡ stepOf W H t q) where
-  pub judged-by : (s′ : List ℤ) (t′ : List ℕ) (k : Step) → d ≡ k → s′ ≡ weightsLeft W H q k t s → t′ ≡ tableLeft q k t → Judged W H q s t s′ t′ d
-  judged-by s′ t′ k ed es et = record { step = e; weights = es ∙ sym (ap (λ k. weightsLeft W H q k t s) ed); table = et ∙ sym (ap (λ k. tableLeft q k t) ed) }
-
-  -- all but an exchange are judged on the surface as it is
-  pub judged-same : Standing W H s t → isExchange q ≡ false → Judged W H q s t s t d
-  judged-same n x = go d refl
-    where
-      go : (k : Step) → d ≡ k → Judged W H q s t s t d
-      go (Refused c) p = judged-by s t (Refused c) p refl refl
-      go (Done i r) p = let g = sym (ground-same t q x) in judged-by s t (Done i r) p (standing-fresh W H s t n ∙ ap (fresh W H) g) g

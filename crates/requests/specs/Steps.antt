@@ -1,4 +1,4 @@
--- WHAT JUDGING, SERVING AND RUNNING LEAVE, in the words of the rules. q is a request's eight bytes; s and t are weights and table before, s′ and t′ after.
+-- WHAT JUDGING ASKS, AND WHAT SERVING AND RUNNING LEAVE, in the words of the rules. q is a request's eight bytes; s and t are weights and table before, s′ and t′ after.
 use mathlib.Core.Path.{_≡_}
 use mathlib.Core.Bool.{Bool, not, cond, _&&_, _||_}
 use mathlib.Core.List.{List, [], _∷_, _++_}
@@ -8,15 +8,14 @@ use lib.Dec.{ltb, eqb}
 use lib.IntN.{ℤ}
 use lib.ListN.{length, take, drop}
 use Rattle.rules.specs.Tests.{all}
-use Rattle.rules.specs.Surface.{Standing, slots, isHard, fresh}
+use Rattle.rules.specs.Surface.{Standing, slots, isHard}
 use Rattle.rules.specs.Empties.{cellsEmpty}
 use Rattle.rules.specs.Judging.{Line, _when_, first}
-use Rattle.rules.specs.Requests.{operation, ruleOf, idLow, idHigh, idAsked, wide, high, known, byRule, makesNew, needsOld, hasSize, zeros, kindAsked, soundLines, ground, stepOf, answerOf, tableAfter, weightsAfter, acceptedOne}
+use Rattle.rules.specs.Requests.{ruleOf, idAsked, wide, high, known, byRule, makesNew, needsOld, hasSize, zeros, soundLines, stepOf, answerOf, tableAfter, weightsAfter, acceptedOne}
 use Rattle.rules.specs.Blocks.{State}
 use Rattle.rules.specs.declared.Rect.{Rect}
 use Rattle.rules.specs.declared.Step.{Step}
 use Rattle.rules.specs.declared.Step.the-variants.{Refused, Done}
-use Rattle.meaning.specs.Change.{On, Placing, Taking}
 
 -- a byte that must be zero is not
 unfoldable pub stray : List ℕ → Bool
@@ -52,26 +51,6 @@ idLines t q i =
 -- a request that none of the codes 11 to 17 and 23 refuses
 abbrev pub Passes : List ℕ → List ℕ → Type 0
 Passes t q = first (soundLines t q) ≡ 0
-
--- judging leaves all as it was where it refuses; else the ground on which the request was judged, without the old module of an exchange
-abbrev pub tableLeft : List ℕ → Step → List ℕ → List ℕ
-tableLeft q (Refused c) t = t
-tableLeft q (Done i r) t = ground t q
-
-abbrev pub weightsLeft : ℕ → ℕ → List ℕ → Step → List ℕ → List ℤ → List ℤ
-weightsLeft W H q (Refused c) t s = s
-weightsLeft W H q (Done i r) t s = fresh W H (ground t q)
-
-pub record Judged (W H : ℕ) (q : List ℕ) (s : List ℤ) (t : List ℕ) (s′ : List ℤ) (t′ : List ℕ) (d : Step) : Type 0 where
-  pub step : d ≡ stepOf W H t q
-  pub weights : s′ ≡ weightsLeft W H q d t s
-  pub table : t′ ≡ tableLeft q d t
-
--- the change that an accepted request makes may be made: s and t are those on which it was judged
-pub record Changing (W H : ℕ) (q : List ℕ) (s : List ℤ) (t : List ℕ) (i : ℕ) (r : Rect) : Type 0 where
-  pub place : On W H r
-  pub taking : operation q ≡ 2 → Taking W H s t i
-  pub placing : (operation q ≡ 2 → ⊥) → Placing W H s t i (idLow q) (idHigh q) r (kindAsked q)
 
 -- a request is served: weights, table, its answer's eight bytes, and 1 where it is accepted
 pub record Served (W H : ℕ) (q : List ℕ) (s : List ℤ) (t : List ℕ) (s′ : List ℤ) (t′ a : List ℕ) (n : ℕ) : Type 0 where

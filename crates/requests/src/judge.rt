@@ -1,12 +1,12 @@
-// What a request comes to. Codes 18 to 22 are judged on the surface: for an exchange on the surface without the old module.
+// What a request comes to. Everything is lent for reading: codes 18 to 22 are judged on the surface as it stands, for an exchange "with the old module in its place" (order 3).
 ghost use mathlib.Core.Path.{_≡_};
 ghost use mathlib.Core.Bool.{true};
-ghost use Prim.Native.Nat.{_+_, _*_, _≤_, _<_};
+ghost use Prim.Native.Nat.{_+_, _≤_, _<_};
 ghost use lib.ListN.{length};
 ghost use Rattle.rules.specs.Surface.{Standing, occupied};
 ghost use Rattle.rules.specs.Requests.{operation, ruleOf, idAsked, wide, high, atPlace, slotOf, rulePlace, stepOf};
 ghost use Rattle.table.specs.Record.{Bytes};
-ghost use Rattle.requests.specs.Steps.{past, ruleStep, Passes, Judged};
+ghost use Rattle.requests.specs.Steps.{past, ruleStep, Passes};
 use super::fields::byte;
 use super::fields::id_asked;
 use super::fields::pinned;
@@ -86,31 +86,11 @@ fn judge_pin(w: usize, h: usize, s: &[i16], t: &[u8], q: &[u8]) -> Step
     Step::Refused(21)
 }
 
-// Operation 4, of the module in slot i: "judged on the surface without the old module and keeps its slot; refused, the old one stays".
-fn judge_exchange(w: usize, h: usize, s: &mut [i16], t: &mut [u8], q: &[u8], i: usize) -> Step
-    requires { ⌜ Standing w h (now s) (now t) ⌝ }
-    requires { ⌜ (length (now q) ≡ 8) × Passes (now t) (now q) × (operation (now q) ≡ 4) × (i ≡ slotOf (now t) (idAsked (now q))) ⌝ }
-    ensures { λ r. ⌜ Judged w h (now (q .entry)) (now (s .entry)) (now (t .entry)) (now (s .exit)) (now (t .exit)) r ⌝ }
-{
-    let at = 8 * i;
-    let low = t[at];
-    let high = t[at + 1];
-    let old = table::rect_at(t, i);
-    modules::take_out(w, h, s, t, i);
-    let d = by_rule(w, h, s, t, q, i);
-    let Step::Done(_, _) = d else {
-        // of kind 0: a block was refused before, 23
-        modules::put_in(w, h, s, t, i, low, high, old, 0);
-        return d;
-    };
-    d
-}
-
-// What the request comes to; the slot of its id is looked for once. Where it is refused, weights and table are as they were; else they are those on which it was judged.
-pub fn judge(w: usize, h: usize, s: &mut [i16], t: &mut [u8], q: &[u8]) -> Step
+// What the request comes to; the slot of its id is looked for once.
+pub fn judge(w: usize, h: usize, s: &[i16], t: &[u8], q: &[u8]) -> Step
     requires { ⌜ Standing w h (now s) (now t) ⌝ }
     requires { ⌜ length (now q) ≡ 8 ⌝ }
-    ensures { λ r. ⌜ Judged w h (now (q .entry)) (now (s .entry)) (now (t .entry)) (now (s .exit)) (now (t .exit)) r ⌝ }
+    ensures { λ r. ⌜ r ≡ stepOf w h (now (t .entry)) (now (q .entry)) ⌝ }
 {
     let c = form_code(q);
     if c != 0 {
@@ -128,7 +108,8 @@ pub fn judge(w: usize, h: usize, s: &mut [i16], t: &mut [u8], q: &[u8]) -> Step
         return judge_remove(w, h, s, t, q, i);
     }
     if q[0] == 4 {
-        return judge_exchange(w, h, s, t, q, i);
+        // with the old module there; the slot is its own, so no free one is asked for
+        return by_rule(w, h, s, t, q, i);
     }
     judge_pin(w, h, s, t, q)
 }

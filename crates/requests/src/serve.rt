@@ -6,8 +6,10 @@ ghost use Rattle.rules.specs.Surface.{Standing, withRecord, fresh};
 ghost use Rattle.rules.specs.Requests.{operation, idLow, idHigh, kindAsked, codeOf, answerOf, recordAfter};
 ghost use Rattle.rules.specs.declared.Step.the-variants.{Refused};
 ghost use Rattle.table.specs.Record.{Bytes};
-ghost use Rattle.requests.specs.Steps.{Changing, Served};
+ghost use Rattle.meaning.specs.Change.{Change};
+ghost use Rattle.requests.specs.Steps.{Served};
 use super::judge::judge;
+use super::sound::either;
 use rules::Rect;
 use rules::Step;
 
@@ -64,19 +66,20 @@ fn kind_asked(q: &[u8]) -> u8
     0
 }
 
-// Operation 2 takes the module of slot i out. The others put the module r there, or the block, under the request's id: an exchange into the slot that
-// judging it has freed, so the record stays in its slot.
+// Operations 2 and 4 take the module of slot i out. All but 2 put the module r, or the block, in, under the request's id: an exchange into the slot that is free now, so the record stays in
+// its slot. Both halves of an exchange are of one request: "the old one goes when the new one stands", and no host sees what is between.
 fn change(w: usize, h: usize, s: &mut [i16], t: &mut [u8], q: &[u8], i: usize, r: Rect)
     requires { ⌜ length (now q) ≡ 8 ⌝ }
-    requires { ⌜ Changing w h (now q) (now s) (now t) i r ⌝ }
+    requires { ⌜ Change w h (now s) (now t) (now q) i r ⌝ }
     ensures { λ _. ⌜ now (t .exit) ≡ withRecord (now (t .entry)) i (recordAfter (now (q .entry)) r) ⌝ }
     ensures { λ _. ⌜ now (s .exit) ≡ fresh w h (now (t .exit)) ⌝ }
 {
-    if q[0] == 2 {
+    if either(q, 2, 4) {
         modules::take_out(w, h, s, t, i);
-        return;
     }
-    modules::put_in(w, h, s, t, i, q[2], q[3], r, kind_asked(q));
+    if q[0] != 2 {
+        modules::put_in(w, h, s, t, i, q[2], q[3], r, kind_asked(q));
+    }
 }
 
 // "A refused request changes neither weights nor table": refusal leads straight to its answer. The result is 1 where it is accepted.

@@ -28,7 +28,7 @@ fn unknown(q: &[u8]) -> bool
 }
 
 // The operation is one of two: 1 and 4 go by a rule, 3 and 6 name their place, 2 and 4 need an old module.
-fn either(q: &[u8], a: u8, b: u8) -> bool
+pub fn either(q: &[u8], a: u8, b: u8) -> bool
     requires { ⌜ length (now q) ≡ 8 ⌝ }
     ensures { λ r. ⌜ r ≡ (eqb (operation (now (q .entry))) a || eqb (operation (now (q .entry))) b) ⌝ }
 {

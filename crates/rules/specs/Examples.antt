@@ -1,4 +1,4 @@
--- Examples beside the worked figures, computed: what corners do not tell, the bound of order 1 met and not met, cases that A to I do not tell apart, and the blocks of order 2.
+-- Examples beside the worked figures, computed: what corners do not tell, the bound of order 1 met and not met, cases that A to I do not tell apart, the blocks of order 2 and the exchanges of order 3.
 use mathlib.Core.Path.{_≡_, refl}
 use mathlib.Core.Bool.{Bool, true, not, _&&_}
 use mathlib.Core.List.{List, [], _∷_, _++_}
@@ -180,7 +180,7 @@ withHard = record {
 }
 
 -- "a pin's refusals in the same order": of a set 12, 14, 15, 17, 18, 21, each where the later ones apply too or stand next, and 19 once the table of two slots is full, behind 18 and before 21. 0, 5 and 7
--- are no operations of a run, 11. And 23 just withheld: of an id that is not placed, 16; of the module 3, which is exchanged and removed
+-- are no operations of a run, 11. And 23 just withheld: of an id that is not placed, 16; of the module 3, which is exchanged, one cell on, and removed
 abbrev setRefused : Case
 setRefused = record {
   w = 3;
@@ -189,7 +189,7 @@ setRefused = record {
   block = set 2 0 0 1 1 ++ eight 6 1 0 0 1 1 1 0 ++ set 0 1 0 0 1 ++ set 2 1 0 0 1 ++ set 4 4 0 0 1 ++ set 4 1 0 1 0 ++ set 4 2 0 2 1 ++ set 4 0 1 1 1 ++ set 4 0 0 1 1
       ++ eight 0 0 0 0 0 0 0 0 ++ eight 5 0 0 0 3 1 0 0 ++ eight 7 0 0 0 1 1 1 0 ++ eight 2 0 4 0 0 0 0 0 ++ pin 3 1 0 1 1 ++ set 4 2 0 2 1 ++ set 4 0 0 1 1 ++ set 4 2 0 1 1 ++ eight 4 0 3 0 1 1 0 0 ++ eight 2 0 3 0 0 0 0 0;
   answers = eight 0 6 2 0 0 0 1 1 ++ eight 12 6 0 0 0 0 0 0 ++ eight 14 6 0 0 0 0 0 0 ++ eight 15 6 2 0 0 0 0 0 ++ eight 17 6 4 0 0 0 0 0 ++ eight 17 6 4 0 0 0 0 0 ++ eight 18 6 4 0 0 0 0 0 ++ eight 18 6 4 0 0 0 0 0 ++ eight 21 6 4 0 0 0 0 0
-      ++ eight 11 0 0 0 0 0 0 0 ++ eight 11 5 0 0 0 0 0 0 ++ eight 11 7 0 0 0 0 0 0 ++ eight 16 2 4 0 0 0 0 0 ++ pinned 3 1 0 1 1 ++ eight 18 6 4 0 0 0 0 0 ++ eight 19 6 4 0 0 0 0 0 ++ eight 19 6 4 0 0 0 0 0 ++ eight 0 4 3 0 1 0 1 1 ++ eight 0 2 3 0 1 0 1 1;
+      ++ eight 11 0 0 0 0 0 0 0 ++ eight 11 5 0 0 0 0 0 0 ++ eight 11 7 0 0 0 0 0 0 ++ eight 16 2 4 0 0 0 0 0 ++ pinned 3 1 0 1 1 ++ eight 18 6 4 0 0 0 0 0 ++ eight 19 6 4 0 0 0 0 0 ++ eight 19 6 4 0 0 0 0 0 ++ eight 0 4 3 0 2 0 1 1 ++ eight 0 2 3 0 2 0 1 1;
   accepted = 4;
   weights = o 1 ∷ e 1 ∷ e 1 ∷ [];
   table = eight 2 0 0 0 1 1 1 0 ++ free;
@@ -198,8 +198,86 @@ setRefused = record {
   corners = 1;
 }
 
+-- order 3, "the old trigger must go on watching the bus until the new one is loaded, so the new one may not cover a single old cell": 4×1, one slot, so that the table is full all the time. Id 1
+-- gives way to one of the same size and moves beside its old place; to 3×1 it would fit without the old one, and is 20; it shrinks to 1×1, and to 3×1 it moves beside that; to its own size again, 20
+abbrev exchange : ℕ → ℕ → ℕ → ℕ → List ℕ
+exchange rule id w h = eight 4 rule id 0 w h 0 0
+
+abbrev swapped : ℕ → ℕ → ℕ → ℕ → ℕ → List ℕ
+swapped id x y w h = eight 0 4 id 0 x y w h
+
+abbrev stays : ℕ → List ℕ
+stays id = eight 20 4 id 0 0 0 0 0
+
+abbrev movesBeside : Case
+movesBeside = record {
+  w = 4;
+  h = 1;
+  slots = 1;
+  block = pin 1 0 0 2 1 ++ exchange 0 1 2 1 ++ exchange 0 1 3 1 ++ exchange 0 1 1 1 ++ exchange 0 1 3 1 ++ exchange 0 1 3 1;
+  answers = pinned 1 0 0 2 1 ++ swapped 1 2 0 2 1 ++ stays 1 ++ swapped 1 0 0 1 1 ++ swapped 1 1 0 3 1 ++ stays 1;
+  accepted = 4;
+  weights = e 1 ∷ o 3 ∷ o 2 ∷ o 1 ∷ [];
+  table = eight 1 0 1 0 3 1 0 0;
+  used = 1;
+  list = rect 0 0 1 1 ∷ [];
+  corners = 1;
+}
+
+-- on a full surface, by each rule: 20, though the new one would fit without the old
+abbrev fullStays : Case
+fullStays = record {
+  w = 2;
+  h = 1;
+  slots = 2;
+  block = pin 1 0 0 2 1 ++ exchange 0 1 1 1 ++ exchange 1 1 1 1 ++ exchange 2 1 1 1 ++ exchange 2 1 2 1;
+  answers = pinned 1 0 0 2 1 ++ stays 1 ++ stays 1 ++ stays 1 ++ stays 1;
+  accepted = 1;
+  weights = o 2 ∷ o 1 ∷ [];
+  table = eight 1 0 0 0 2 1 0 0 ++ free;
+  used = 1;
+  list = [];
+  corners = 0;
+}
+
+-- the rule chooses from the list with the old one in it: the surface of `rulesPart`, id 9, 1×1, placed at (0,1), and exchanged to its own size, twice by each rule. Without the old one rule 0 would choose
+-- (0,1) each time, rule 1 (3,1), rule 2 (1,2)
+abbrev chosenBeside : Case
+chosenBeside = record {
+  w = 4;
+  h = 3;
+  slots = 5;
+  block = pin 1 0 2 1 1 ++ pin 2 2 0 2 1 ++ pin 3 2 1 1 1 ++ pin 4 3 2 1 1 ++ eight 1 0 9 0 1 1 0 0
+      ++ exchange 0 9 1 1 ++ exchange 0 9 1 1 ++ exchange 1 9 1 1 ++ exchange 1 9 1 1 ++ exchange 2 9 1 1 ++ exchange 2 9 1 1;
+  answers = pinned 1 0 2 1 1 ++ pinned 2 2 0 2 1 ++ pinned 3 2 1 1 1 ++ pinned 4 3 2 1 1 ++ eight 0 1 9 0 0 1 1 1
+      ++ swapped 9 0 0 1 1 ++ swapped 9 0 1 1 1 ++ swapped 9 3 1 1 1 ++ swapped 9 1 2 1 1 ++ swapped 9 2 2 1 1 ++ swapped 9 1 2 1 1;
+  accepted = 11;
+  weights = e 1 ∷ e 1 ∷ o 2 ∷ o 1 ∷ e 2 ∷ e 2 ∷ o 1 ∷ e 1 ∷ o 1 ∷ o 1 ∷ e 1 ∷ o 1 ∷ [];
+  table = eight 1 0 0 2 1 1 0 0 ++ eight 2 0 2 0 2 1 0 0 ++ eight 3 0 2 1 1 1 0 0 ++ eight 4 0 3 2 1 1 0 0 ++ eight 9 0 1 2 1 1 0 0;
+  used = 5;
+  list = rect 0 0 2 2 ∷ rect 3 1 1 1 ∷ rect 2 2 1 1 ∷ [];
+  corners = 4;
+}
+
+-- rule 1 measures the entries of that list, beside a block: without the old one the least would be (3,0,1,1), clear of it; with it (0,0,1,1) is as small, and earlier. And "keeps its slot": the record
+-- stays in slot 2, though slot 0 is free
+abbrev leastBeside : Case
+leastBeside = record {
+  w = 4;
+  h = 1;
+  slots = 3;
+  block = pin 3 0 0 1 1 ++ set 2 2 0 1 1 ++ pin 1 1 0 1 1 ++ eight 2 0 3 0 0 0 0 0 ++ exchange 1 1 1 1;
+  answers = pinned 3 0 0 1 1 ++ eight 0 6 2 0 2 0 1 1 ++ pinned 1 1 0 1 1 ++ eight 0 2 3 0 0 0 1 1 ++ swapped 1 0 0 1 1;
+  accepted = 5;
+  weights = o 1 ∷ e 1 ∷ o 1 ∷ e 1 ∷ [];
+  table = free ++ eight 2 0 2 0 1 1 1 0 ++ eight 1 0 0 0 1 1 0 0;
+  used = 2;
+  list = rect 1 0 1 1 ∷ rect 3 0 1 1 ∷ [];
+  corners = 2;
+}
+
 -- THESE HOLD TOO
-pub examples-hold : all caseHolds (removed ∷ exchanged ∷ wideAndIds ∷ rulesPart ∷ withHard ∷ setRefused ∷ []) ≡ true
+pub examples-hold : all caseHolds (removed ∷ exchanged ∷ wideAndIds ∷ rulesPart ∷ withHard ∷ setRefused ∷ movesBeside ∷ fullStays ∷ chosenBeside ∷ leastBeside ∷ []) ≡ true
 unfolding caseHolds
 examples-hold = refl
 

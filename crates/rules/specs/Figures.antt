@@ -64,7 +64,7 @@ sameItems f (a ∷ l) (b ∷ m) = sameItems f l m && f a b
 
 -- whoever unfolds `caseHolds` unfolds all the rules: the statements below are computed
 unfoldable pub caseHolds : Case → Bool
-unfolding Tests.every Tests.any Tests.total Tests.leastFrom Tests.tabFrom Tests.keep Tests.all Tests.chain Surface.covers Surface.freeSlot Surface.holds Surface.occupied Surface.holder Surface.upwards Surface.number Surface.remaining Surface.weight Surface.fresh Surface.soundSlot Surface.slotsSound Surface.idsDiffer Surface.modulesApart Surface.weightsRight Surface.stands Surface.usedSlots Empties.onSurface Empties.cellsEmpty Empties.empty Empties.rects Empties.maximal Empties.entries Empties.entryRecords Empties.scanned Empties.scannedRows Empties.corner Empties.corners Judging.first Requests.zeros Requests.idPlaced Requests.slotOf Requests.someFree Requests.lowestFree Requests.ground Requests.position Requests.cost Requests.cheapest Requests.chosen Requests.rulePlace Requests.soundLines Requests.placeLines Requests.acceptedStep Requests.stepOf Blocks.nextBy Blocks.afterBy Calls.clearLines Calls.clearCode Calls.clearedWeights Calls.clearWith Calls.checkLines Calls.checkCode Calls.checkWith Calls.runLines Calls.runCode Calls.runWith Calls.listLines Calls.listCode Calls.listWith Calls.badSize Calls.badTable Calls.badBlock
+unfolding Tests.every Tests.any Tests.total Tests.leastFrom Tests.tabFrom Tests.keep Tests.all Tests.chain Surface.covers Surface.freeSlot Surface.holds Surface.occupied Surface.holder Surface.upwards Surface.number Surface.remaining Surface.weight Surface.fresh Surface.soundSlot Surface.slotsSound Surface.idsDiffer Surface.modulesApart Surface.weightsRight Surface.stands Surface.usedSlots Empties.onSurface Empties.cellsEmpty Empties.empty Empties.rects Empties.maximal Empties.entries Empties.entryRecords Empties.scanned Empties.scannedRows Empties.corner Empties.corners Judging.first Requests.zeros Requests.idPlaced Requests.slotOf Requests.someFree Requests.lowestFree Requests.position Requests.cost Requests.cheapest Requests.chosen Requests.rulePlace Requests.soundLines Requests.placeLines Requests.acceptedStep Requests.stepOf Blocks.nextBy Blocks.afterBy Calls.clearLines Calls.clearCode Calls.clearedWeights Calls.clearWith Calls.checkLines Calls.checkCode Calls.checkWith Calls.runLines Calls.runCode Calls.runWith Calls.listLines Calls.listCode Calls.listWith Calls.badSize Calls.badTable Calls.badBlock
 caseHolds c =
     let blank = clear (c .w) (c .h) (replicate (c .w * c .h) (pos 9)) (replicate (8 * c .slots) 9) in
     let ran = run (c .w) (c .h) (blank .weights) (blank .table) (c .block) (replicate (length (c .block)) 9) in
@@ -228,29 +228,13 @@ caseF2 = record {
   corners = 4;
 }
 
--- G: D, exchange id 7 to 2×2, rule 2: at (0,1)
-abbrev caseG : Case
-caseG = record {
+-- D, exchange id 7 to w×h by each rule: 20, nothing changed. G: to 2×2 ("Case G now gives 20", order 3). H: to 4×1
+abbrev caseGH : ℕ → ℕ → Case
+caseGH w h = record {
   w = 3;
   h = 3;
   slots = 2;
-  block = pinD ++ eight 4 2 7 0 2 2 0 0;
-  answers = answerD ++ eight 0 4 7 0 0 1 2 2;
-  accepted = 2;
-  weights = e 1 ∷ e 1 ∷ e 1 ∷ o 2 ∷ o 1 ∷ e 2 ∷ o 2 ∷ o 1 ∷ e 3 ∷ [];
-  table = eight 7 0 0 1 2 2 0 0 ++ free;
-  used = 1;
-  list = rect 0 0 3 1 ∷ rect 2 0 1 3 ∷ [];
-  corners = 2;
-}
-
--- H: D, exchange id 7 to 4×1: 20 (by each rule), nothing changed
-abbrev caseH : Case
-caseH = record {
-  w = 3;
-  h = 3;
-  slots = 2;
-  block = pinD ++ eight 4 0 7 0 4 1 0 0 ++ eight 4 1 7 0 4 1 0 0 ++ eight 4 2 7 0 4 1 0 0;
+  block = pinD ++ eight 4 0 7 0 w h 0 0 ++ eight 4 1 7 0 w h 0 0 ++ eight 4 2 7 0 w h 0 0;
   answers = answerD ++ eight 20 4 7 0 0 0 0 0 ++ eight 20 4 7 0 0 0 0 0 ++ eight 20 4 7 0 0 0 0 0;
   accepted = 1;
   weights = weightsD;
@@ -278,7 +262,7 @@ caseI slots code table = record {
 
 abbrev pub cases : List Case
 cases =
-    caseA ∷ caseB ∷ caseC ∷ caseD ∷ caseE ∷ caseF 0 ∷ caseF 1 ∷ caseF2 ∷ caseG ∷ caseH
+    caseA ∷ caseB ∷ caseC ∷ caseD ∷ caseE ∷ caseF 0 ∷ caseF 1 ∷ caseF2 ∷ caseGH 2 2 ∷ caseGH 4 1
     ∷ caseI 1 19 (eight 1 0 0 0 1 1 0 0)
     ∷ caseI 2 20 (eight 1 0 0 0 1 1 0 0 ++ free)
     ∷ []

@@ -122,10 +122,6 @@ lowestFree t = least (slots t) (freeSlot t)
 
 -- ---- where a module by rule may stand
 
--- the table on which a request's place is judged: "Exchange is judged on the surface without the old module"
-unfoldable pub ground : List ℕ → List ℕ → List ℕ
-ground t q = cond (isExchange q) (withRecord t (slotOf t (idAsked q)) freeRecord) t
-
 -- some position has all its cells empty
 unfoldable pub position : (ℕ → ℕ → Bool) → ℕ → ℕ → ℕ → ℕ → Bool
 position occ W H w h = any H (λ y. any W (λ x. empty occ W H (rect x y w h)))
@@ -183,9 +179,10 @@ soundLines t q =
     17 when (hasSize q && (eqb (wide q) 0 || eqb (high q) 0)) ∷
     []
 
+-- a place by rule is judged on the surface as it stands; order 3: "Exchange is now judged with the old module in its place"
 unfoldable pub placeLines : ℕ → ℕ → List ℕ → List ℕ → List Line
 placeLines W H t q =
-    let occ = occupied (ground t q) in
+    let occ = occupied t in
     18 when (atPlace q && (ltb W (byte6 q + wide q) || ltb H (byte7 q + high q))) ∷
     19 when (makesNew q && not (someFree t)) ∷
     20 when (byRule q && not (position occ W H (wide q) (high q))) ∷
@@ -203,11 +200,11 @@ abbrev pub orNone : Option Rect → Rect
 orNone none = rect 0 0 0 0
 orNone (some r) = r
 
--- an accepted request: "Place and pin use the lowest free slot", and so does a set; "Exchange .. keeps its slot"
+-- an accepted request: "Place and pin use the lowest free slot", and so does a set; "Exchange .. keeps its slot", for "the old one goes when the new one stands"
 unfoldable pub acceptedStep : ℕ → ℕ → List ℕ → List ℕ → Step
 acceptedStep W H t q =
     let old = slotOf t (idAsked q) in
-    let byRulePlace = orNone (rulePlace (occupied (ground t q)) W H (ruleOf q) (wide q) (high q)) in
+    let byRulePlace = orNone (rulePlace (occupied t) W H (ruleOf q) (wide q) (high q)) in
     cond (isPlace q) (Done (lowestFree t) byRulePlace)
     (cond (isRemove q) (Done old (rectOf t old))
     (cond (atPlace q) (Done (lowestFree t) (pinned q))
