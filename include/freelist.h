@@ -41,12 +41,14 @@
  *           op 1 place      by rule; a = b = 0
  *           op 2 remove     rule = w = h = a = b = 0
  *           op 3 pin        at x = a, y = b; rule = 0
- *           op 4 exchange   the module with this id for one of a new size, by
- *                           rule; a = b = 0. Judged with the old one in its place:
- *                           the new one shares no cell with it. The old one goes
- *                           when the new one stands: for the next request its
- *                           cells are empty, so load in the order of the answers.
- *                           The id keeps its slot, no free one is needed.
+ *           op 4 exchange   the module with this id for another, by rule; a = b =
+ *                           0. One of the same size moves. Judged with the old one
+ *                           in its place: the new one shares no cell with it. The
+ *                           id keeps its slot, no free one is needed. The old one
+ *                           goes when the new one stands: answered 0, its cells
+ *                           are empty for the next request, of the same block
+ *                           too. So load the new one and stop the old one before
+ *                           you load what a later answer says.
  *           op 6 set        a hard block, at x = a, y = b; rule = 0
  *
  *           Place, pin and set take the lowest free slot.

@@ -262,8 +262,8 @@ static void weights_are(const char *what, const int *expected)
 }
 #define WEIGHTS_ARE(what, ...) weights_are(what, (const int[]){ __VA_ARGS__ })
 
-/* "the new one may not cover a single old cell" (order 3): each would have a place without the old
- * module, and beside it stands one that has a place with it. */
+/* "the new one may not cover a single old cell" (order 3): each but H would have a place without the
+ * old module, and beside it stands one that has a place with it. */
 static void old_in_its_place(int rule)
 {
     anew_of(3, 3, 2);
@@ -355,6 +355,41 @@ static void weights_below(void)
     WEIGHTS_ARE("counted on to the next", 1, 1, 2, 2, 3, 3, 4, 4, 5, -1, -2, -1);
 }
 
+/* The last of 256 slots, all of them used: on 17x16 only the last column is free. */
+static void last_slot(void)
+{
+    anew_of(17, 16, 256);
+    for (int id = 1; id <= 256; id++)
+        is("a pin for each slot", ask(3, 0, id, 1, 1, (id - 1) % 16, (id - 1) / 16), 0);
+    is("exchange in the last slot", ask(4, 0, 256, 1, 1, 0, 0), 0);
+    slot_is("the last slot", 255, 256, 16, 15, 1, 1, 0);
+    is("a place, no free slot", ask(1, 0, 300, 1, 1, 0, 0), 19);
+    is("exchange for two columns", ask(4, 0, 256, 2, 1, 0, 0), 20);
+}
+
+/* A block of 512 exchanges on 64x64, and the same as 512 blocks of one. */
+static void many_exchanges(void)
+{
+    static uint8_t block[8 * 512], weights_left[2 * 64 * 64];
+    uint8_t slot_left[8];
+    for (int i = 0; i < 512; i++)
+        memcpy(block + 8 * i, (const uint8_t[8]){ 4, (uint8_t)(i % 3), 1, 0, (uint8_t)(1 + i % 31), (uint8_t)(1 + i % 29), 0, 0 }, 8);
+    anew_of(64, 64, 1);
+    is("a pin", ask(3, 0, 1, 32, 32, 0, 32), 0);
+    uint64_t r = freelist_run(64, 64, weights, sizeof weights_left, table, 8, block, sizeof block, answers, sizeof block);
+    is("512 exchanges", freelist_code(r), 0);
+    is("all accepted", freelist_first(r), 512);
+    is("the surface stands", check(), 0);
+    memcpy(weights_left, weights, sizeof weights_left);
+    memcpy(slot_left, table, 8);
+    anew_of(64, 64, 1);
+    is("the same pin", ask(3, 0, 1, 32, 32, 0, 32), 0);
+    for (uint8_t *q = block; q < block + sizeof block; q += 8)
+        is("one of them", ask(q[0], q[1], 1, q[4], q[5], 0, 0), 0);
+    is("the same slot", memcmp(slot_left, table, 8) == 0, 1);
+    is("the same weights", memcmp(weights_left, weights, sizeof weights_left) == 0, 1);
+}
+
 /* The code of a check with these bytes 6 and 7 in slot n, put back afterwards. */
 static unsigned check_with(int n, int kind, int spare)
 {
@@ -410,6 +445,8 @@ int main(void)
         list_with_the_old(rule);
     }
     weights_below();
+    last_slot();
+    many_exchanges();
     kinds();
     printf("beside: %d cases, %d wrong\n", cases, wrong);
     return wrong != 0;

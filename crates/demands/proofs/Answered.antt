@@ -5,13 +5,13 @@ use mathlib.Core.Logic.{_↔_}
 use mathlib.Core.List.{List}
 use Prim.Native.Nat.{ℕ, suc, _+_, _*_, _≤_, _<_}
 use native.Mathlib.Omega.{arith}
-use borrow.Author.Tests.{eqb-true, ne-eqb}
+use borrow.Author.Tests.{eqb-true, eq-eqb, ne-eqb}
 use lib.Dec.{eqb}
 use lib.IntN.{ℤ}
 use lib.ListN.{getD, drop}
 use lib.Seq.{getD-take, getD-drop}
 use Rattle.rules.specs.Judging.{first, FirstThat}
-use Rattle.rules.specs.Surface.{rect, slots, covers, rectOf, kindOf, recordOf, freeRecord, freeSlot, withRecord, occupied}
+use Rattle.rules.specs.Surface.{rect, slots, covers, rectOf, kindOf, isHard, recordOf, freeRecord, freeSlot, withRecord, occupied}
 use Rattle.rules.specs.Empties.{Empty}
 use Rattle.rules.specs.Requests.{operation, kindAsked, idLow, idHigh, idAsked, wide, high, byRule, isPlace, isRemove, isPin, isExchange, isSet, atPlace, makesNew, needsOld, pinned, judgedTo, idPlaced, slotOf, lowestFree, judging, stepOf, codeOf, valuesOf, answerOf, tableAfter, acceptedOne}
 use Rattle.rules.specs.Place.{pinLines, pinStep}
@@ -27,7 +27,8 @@ use Rattle.meaning.proofs.Splits.{by-same}
 use Rattle.meaning.proofs.First.{first-is}
 use Rattle.meaning.proofs.Changes.{id-gone, put-occupied, taken-less}
 use Rattle.meaning.proofs.Theorems.{pin-step, set-step}
-use Rattle.meaning.proofs.Steps.{asking, old-there, refused-code, rules-step, kind-is, module-kind, change, put-leaves, take-leaves, swap-leaves}
+use Rattle.meaning.proofs.Operations.{old-in}
+use Rattle.meaning.proofs.Steps.{refused-code, rules-step, kind-is, module-kind, change, put-leaves, take-leaves, swap-leaves}
 use Rattle.demands.specs.Sound.{Sound, SlotForIt, SoundTo16, asPin}
 use Rattle.demands.specs.History.{moduleAt, codeIn, placeIn}
 use Rattle.demands.specs.Told.{HasModule, Placed, LowestFree, SlotOfId, HardId, HardStays}
@@ -36,7 +37,7 @@ use Rattle.demands.specs.Chain.{RunCall, NotRefused, asked, answered, up
 use Rattle.demands.proofs.Refusals as R
 use Rattle.demands.proofs.Refusals.{StandsAs, stands-as}
 use Rattle.demands.proofs.Told.{put-has}
-use Rattle.demands.proofs.Hard.{hard-step, change-clear, used-occupied, placed-clear}
+use Rattle.demands.proofs.Hard.{hard-used, used-occupied, written-soft, hard-step, change-clear}
 use Rattle.demands.proofs.Blocks.{answers-at, framed-after}
 use Rattle.demands.proofs.Chains.{call-stands, call-answers, each-stands}
 
@@ -113,7 +114,7 @@ module _ {W H : ℕ} (c : RunCall W H) (e : NotRefused c) (k : ℕ) (l : k < req
   pub answer-old-counted : Sound t q → needsOld q ≡ true → (x y : ℕ) → covers (rectOf t (slotOf t (idAsked q))) x y ≡ true → occupied t x y ≡ true
   answer-old-counted so f =
       let d = each-stands c e k in
-      used-occupied d (slotOf t (idAsked q)) (old-there W H s t q d (asking t q (R.sound-first t q so)) f .taking .used)
+      used-occupied d (slotOf t (idAsked q)) (old-in t q (R.sound-first t q so) W H s d f (slotOf t (idAsked q)) refl .taking .used)
 
   -- ---- blocks of the fabric
 
@@ -207,11 +208,7 @@ module _ {W H : ℕ} (c : RunCall W H) (e : NotRefused c) (k : ℕ) (l : k < req
     -- ---- it stands clear of what was there, and the old module of an exchange goes
 
     pub answer-clear : isRemove q ≡ false → (j : ℕ) → freeSlot t j ≡ false → (x y : ℕ) → covers (rectOf t j) x y ≡ true → covers r x y ≡ false
-    answer-clear f = elim did [
-      | puts n m p ↦ placed-clear (each-stands c e k) r (p .empty)
-      | takes o x p z ↦ not-both (isRemove q) o f
-      | swaps o x p v n ↦ placed-clear (each-stands c e k) r v
-    ]
+    answer-clear f j u = change-clear W H s t q i r (each-stands c e k) did j u (λ o z. not-both (isRemove q) o f)
 
     pub answer-clear-of-old : isExchange q ≡ true → (x y : ℕ) → covers (rectOf t (slotOf t (idAsked q))) x y ≡ true → covers r x y ≡ false
     answer-clear-of-old f = answer-clear (ap (λ n. eqb n 2) (eqb-true (operation q) 4 f)) (slotOf t (idAsked q)) (answer-exchange-slot f .0 .used)
@@ -233,7 +230,8 @@ module _ {W H : ℕ} (c : RunCall W H) (e : NotRefused c) (k : ℕ) (l : k < req
     -- ---- blocks of the fabric
 
     pub answer-hard-clear : (j : ℕ) → kindOf t j ≡ 1 → (x y : ℕ) → covers (rectOf t j) x y ≡ true → covers r x y ≡ false
-    answer-hard-clear = change-clear W H s t q i r (each-stands c e k) did
+    answer-hard-clear j h =
+        change-clear W H s t q i r (each-stands c e k) did j (hard-used t j h) (λ o z. not-both (isHard t i) (eq-eqb (kindOf t i) 1 (ap (kindOf t) (sym z) ∙ h)) (written-soft W H s t q i r did .1))
 
     pub answer-set-stands : isSet q ≡ true → (r ≡ pinned q) × LowestFree t (lowestFree t) × (then ≡ withRecord t (lowestFree t) (recordOf (idLow q) (idHigh q) (pinned q) 1))
     answer-set-stands f =

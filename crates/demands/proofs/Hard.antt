@@ -1,4 +1,4 @@
--- BLOCKS OF THE FABRIC (order 2): none is moved, removed or written over by any request, and nothing comes to stand on one. Assumes nothing.
+-- BLOCKS OF THE FABRIC (order 2): none is moved, removed or written over by any request, and nothing comes to stand on one; nor on any module that was there (order 3). Assumes nothing.
 use mathlib.Core.Path.{_≡_, refl, sym, ap, _∙_, subst}
 use mathlib.Core.Bool.{true, false, not, _&&_, true≢false}
 use mathlib.Core.List.{List}
@@ -11,7 +11,7 @@ use lib.IntN.{ℤ}
 use lib.ListN.{List·getD-eq-default}
 use Rattle.rules.specs.Surface.{Standing, slots, covers, byte, rectOf, kindOf, isHard, freeSlot, holds, occupied}
 use Rattle.rules.specs.Empties.{cellsEmpty}
-use Rattle.rules.specs.Requests.{recordAfter, stepOf, tableAfter}
+use Rattle.rules.specs.Requests.{isRemove, recordAfter, stepOf, tableAfter}
 use Rattle.rules.specs.Blocks.{State, request, nextBy, afterBy}
 use Rattle.rules.specs.declared.Rect.{Rect}
 use Rattle.rules.specs.declared.Step.{Step}
@@ -45,7 +45,7 @@ pub stays-on : (t u v : List ℕ) → HardStays t u → HardStays u v → HardSt
 stays-on t u v f g i e k l = g i (f i e 6 (omega arith) ∙ e) k l ∙ f i e k l
 
 -- a slot that is written has no block
-written-soft : (W H : ℕ) (s : List ℤ) (t q : List ℕ) (i : ℕ) (r : Rect) → Change W H s t q i r → (i < slots t) × (isHard t i ≡ false)
+pub written-soft : (W H : ℕ) (s : List ℤ) (t q : List ℕ) (i : ℕ) (r : Rect) → Change W H s t q i r → (i < slots t) × (isHard t i ≡ false)
 written-soft W H s t q i r (puts n l p) = (p .slot, ne-eqb (kindOf t i) 1 (λ e. omega (arith, e, free-byte t i (p .unused) 6 (omega arith))))
 written-soft W H s t q i r (takes o x p m) = (p .taking .slot, p .soft)
 written-soft W H s t q i r (swaps o x p v n) = (p .taking .slot, p .soft)
@@ -88,7 +88,7 @@ stays-has t u f d m e w =
       kind = b 6 (omega arith) ∙ w .kind;
     }
 
--- ---- nothing stands on a block
+-- ---- nothing comes to stand on what was there
 
 -- the cells of a used slot are occupied
 pub used-occupied : {W H : ℕ} {s : List ℤ} {t : List ℕ} → Standing W H s t → (j : ℕ) → freeSlot t j ≡ false → (x y : ℕ) → covers (rectOf t j) x y ≡ true → occupied t x y ≡ true
@@ -105,18 +105,14 @@ slots-apart {W} {H} {s} {t} d i j ne f g x y e =
     not-both (holds t x y i && holds t x y j) (and-both (holds-both t x y i (ap not f) e) (holds-both t x y j (ap not g) k))
     (apart-told W H t (u .modulesAre) x y (omega (arith, w .right, p .columns)) (omega (arith, w .bottom, p .lines)) i j (used-low d i f) (used-low d j g) ne))
 
--- what is put in has no cell of a module or a block that was there: its cells were all empty
-pub placed-clear : {W H : ℕ} {s : List ℤ} {t : List ℕ} → Standing W H s t → (r : Rect) → cellsEmpty (occupied t) r ≡ true → (j : ℕ) → freeSlot t j ≡ false → (x y : ℕ) → covers (rectOf t j) x y ≡ true → covers r x y ≡ false
-placed-clear {t = t} d r e j f x y k = fails (covers r x y) (λ c. true≢false (sym (used-occupied d j f x y k) ∙ empty-at (occupied t) r e x y c))
-
--- AN ACCEPTED MODULE OR BLOCK SHARES NO CELL WITH A BLOCK THAT WAS THERE; (r is what a remove takes out, and that is no block)
-pub change-clear : (W H : ℕ) (s : List ℤ) (t q : List ℕ) (i : ℕ) (r : Rect) → Standing W H s t → Change W H s t q i r → (j : ℕ) → kindOf t j ≡ 1 → (x y : ℕ) → covers (rectOf t j) x y ≡ true → covers r x y ≡ false
-change-clear W H s t q i r d c j h x y e =
-    let f = hard-used t j h in
+-- WHAT IS PUT IN SHARES NO CELL WITH A MODULE OR A BLOCK THAT WAS THERE: its cells were all empty; (r is what a remove takes out, and that of slot i)
+pub change-clear : (W H : ℕ) (s : List ℤ) (t q : List ℕ) (i : ℕ) (r : Rect) → Standing W H s t → Change W H s t q i r →
+    (j : ℕ) → freeSlot t j ≡ false → (isRemove q ≡ true → j ≡ i → ⊥) → (x y : ℕ) → covers (rectOf t j) x y ≡ true → covers r x y ≡ false
+change-clear W H s t q i r d c j f ne x y e =
+    let clear : cellsEmpty (occupied t) r ≡ true → covers r x y ≡ false =
+    λ v. fails (covers r x y) (λ k. true≢false (sym (used-occupied d j f x y e) ∙ empty-at (occupied t) r v x y k)) in
     elim c [
-      | puts n l p ↦ placed-clear d r (p .empty) j f x y e
-      | takes o z p m ↦
-          ap (λ v. covers v x y) m
-          ∙ slots-apart d j i (λ z. not-both (isHard t i) (eq-eqb (kindOf t i) 1 (ap (kindOf t) (sym z) ∙ h)) (p .soft)) f (p .taking .used) x y e
-      | swaps o z p v n ↦ placed-clear d r v j f x y e
+      | puts n l p ↦ clear (p .empty)
+      | takes o z p m ↦ ap (λ v. covers v x y) m ∙ slots-apart d j i (ne o) f (p .taking .used) x y e
+      | swaps o z p v n ↦ clear v
     ]

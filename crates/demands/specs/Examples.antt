@@ -67,30 +67,25 @@ pin id x y w h = eight 3 0 id 0 w h x y
 abbrev remove : ℕ → List ℕ
 remove id = eight 2 0 id 0 0 0 0 0
 
--- ---- G and H: 3×3, pin id 7, 1×1 at (1,1), exchanged by each rule to 2×2 (G), to 4×1 (H): refused, 20. The history keeps the old rectangle
+-- ---- G and H: 3×3, pin id 7, 1×1 at (1,1), exchanged by each rule to 2×2 (G) and to 4×1 (H): refused, 20. The history keeps the old rectangle
 
-abbrev pub storyGH : ℕ → ℕ → Story
-storyGH w h = record { w = 3; h = 3; slots = 2; block = pin 7 1 1 1 1 ++ eight 4 0 7 0 w h 0 0 ++ eight 4 1 7 0 w h 0 0 ++ eight 4 2 7 0 w h 0 0 }
+abbrev byEach : ℕ → ℕ → List ℕ
+byEach w h = eight 4 0 7 0 w h 0 0 ++ eight 4 1 7 0 w h 0 0 ++ eight 4 2 7 0 w h 0 0
 
--- what is so after each of the four requests
-abbrev four : {A : Type 0} → A → List A
-four a = a ∷ a ∷ a ∷ a ∷ []
+abbrev pub storyGH : Story
+storyGH = record { w = 3; h = 3; slots = 2; block = pin 7 1 1 1 1 ++ byEach 2 2 ++ byEach 4 1 }
 
-pub g-told : tellings (storyGH 2 2) ≡ four (moduleAt 0 7 (rect 1 1 1 1) 0 ∷ [])
+pub gh-told : tellings storyGH ≡ replicate 7 (moduleAt 0 7 (rect 1 1 1 1) 0 ∷ [])
 unfolding caseHolds history leastUnused slotIn
-g-told = refl
+gh-told = refl
 
-pub h-told : tellings (storyGH 4 1) ≡ four (moduleAt 0 7 (rect 1 1 1 1) 0 ∷ [])
-unfolding caseHolds history leastUnused slotIn
-h-told = refl
-
-pub h-afresh : reckonings (storyGH 4 1) ≡ four (e 1 ∷ e 1 ∷ e 1 ∷ e 2 ∷ o 1 ∷ e 2 ∷ e 3 ∷ e 1 ∷ e 3 ∷ [])
+pub gh-afresh : reckonings storyGH ≡ replicate 7 (e 1 ∷ e 1 ∷ e 1 ∷ e 2 ∷ o 1 ∷ e 2 ∷ e 3 ∷ e 1 ∷ e 3 ∷ [])
 unfolding caseHolds history leastUnused slotIn taken remains historyWeight
-h-afresh = refl
+gh-afresh = refl
 
-pub h-weights : weighings (storyGH 4 1) ≡ reckonings (storyGH 4 1)
+pub gh-weights : weighings storyGH ≡ reckonings storyGH
 unfolding caseHolds history leastUnused slotIn taken remains historyWeight
-h-weights = refl
+gh-weights = refl
 
 -- ---- a removal: one column of four cells, pins at rows 0 and 2, and row 2 freed. The history forgets id 2
 

@@ -23,7 +23,7 @@ pub record Reached (m : Rect) (t : List ℕ) (c r : ℕ) : Type 0 where
 abbrev pub oldSlot : List ℕ → List ℕ → ℕ
 oldSlot t q = slotOf t (idAsked q)
 
--- the table without the old module. (With it in its place the same cells come out: where it stops the new one's stretch, its own goes on.)
+-- the table without the old module
 abbrev pub bare : List ℕ → List ℕ → List ℕ
 bare t q = cond (needsOld q) (withRecord t (oldSlot t q) freeRecord) t
 

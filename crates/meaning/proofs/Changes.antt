@@ -29,9 +29,26 @@ use Rattle.meaning.proofs.Columns.{within-yes, covers-in}
 pub empty-at : (occ : ℕ → ℕ → Bool) (r : Rect) → cellsEmpty occ r ≡ true → (x y : ℕ) → covers r x y ≡ true → occ x y ≡ false
 empty-at occ r e x y k = let w = covers-within r x y k in cellsEmpty-at occ 0 0 r e x y (w .left) (w .right) (w .top) (w .bottom)
 
+-- and the other way round
+empty-of : (occ : ℕ → ℕ → Bool) (r : Rect) → ((x y : ℕ) → covers r x y ≡ true → occ x y ≡ false) → cellsEmpty occ r ≡ true
+empty-of occ r h = cellsEmpty-yes occ 0 0 r (λ x y a b c d. h x y (covers-in r x a b y ∙ within-yes (r .y) (r .h) y c d))
+
 -- slot i lies in a table of whole slots
 pub slot-fits : {W H : ℕ} {s : List ℤ} {t : List ℕ} {i : ℕ} → Standing W H s t → i < slots t → 8 * i + 8 ≤ length t
 slot-fits d l = let w = d .whole in omega arith
+
+-- A RECORD WRITTEN OVER ANOTHER: only the second is left
+record-over : (t : List ℕ) (i : ℕ) (a b : List ℕ) → length a ≡ 8 → length b ≡ 8 → 8 * i + 8 ≤ length t → withRecord (withRecord t i a) i b ≡ withRecord t i b
+record-over t i a b ea eb f =
+    let n = length-sets t (8 * i) a in
+    let u = withRecord t i a in
+    ext-getD 0 (withRecord u i b) (withRecord t i b) (length-sets u (8 * i) b ∙ n ∙ sym (length-sets t (8 * i) b)) (λ k l.
+    by-less k (8 * i) (λ h. sets-low 0 b u (8 * i) k h ∙ sets-low 0 a t (8 * i) k h ∙ sym (sets-low 0 b t (8 * i) k h)) (λ g.
+    by-less k (8 * i + 8)
+    (λ h.
+    let e : k ≡ 8 * i + (k - 8 * i) = omega arith in
+    ap (λ n. getD (withRecord u i b) n 0) e ∙ record-byte u i b eb (omega arith) (k - 8 * i) (omega arith) ∙ sym (ap (λ n. getD (withRecord t i b) n 0) e ∙ record-byte t i b eb f (k - 8 * i) (omega arith)))
+    (λ h. sets-high 0 b u (8 * i) k (omega arith) ∙ sets-high 0 a t (8 * i) k (omega arith) ∙ sym (sets-high 0 b t (8 * i) k (omega arith)))))
 
 -- ---- a module is put in
 
@@ -162,69 +179,48 @@ module _ (W H : ℕ) (s : List ℤ) (t : List ℕ) (i : ℕ) (p : Taking W H s t
   take-stands = fresh-standing W H taken left-table
 
   -- A CELL IS THEN OCCUPIED IF IT WAS AND THE MODULE HAD IT NOT
-  pub take-occupied : (x y : ℕ) → occupied taken x y ≡ (occupied t x y && not (covers (rectOf t i) x y))
+  take-occupied : (x y : ℕ) → occupied taken x y ≡ (occupied t x y && not (covers (rectOf t i) x y))
   take-occupied x y = occupied-less taken t i (rectOf t i) taken-less x y
 
   -- ONLY WEIGHTS IN THE MODULE'S REACH HAVE CHANGED
   pub take-frame : (c q : ℕ) → c < W → q < H → Spared (rectOf t i) taken c q → cell W (fresh W H taken) c q ≡ cell W s c q
   take-frame c q hc hq k = sym (ap (λ l. cell W l c q) (standing-fresh W H s t (p .standing)) ∙ frame W H taken t i (rectOf t i) taken-less c q hc hq k)
 
--- ==== AN EXCHANGE: the old module taken out, then the new one put into the same slot
-
--- A RECORD WRITTEN OVER ANOTHER: only the second is left
-record-over : (t : List ℕ) (i : ℕ) (a b : List ℕ) → length a ≡ 8 → length b ≡ 8 → 8 * i + 8 ≤ length t → withRecord (withRecord t i a) i b ≡ withRecord t i b
-record-over t i a b ea eb f =
-    let n = length-sets t (8 * i) a in
-    let u = withRecord t i a in
-    ext-getD 0 (withRecord u i b) (withRecord t i b) (length-sets u (8 * i) b ∙ n ∙ sym (length-sets t (8 * i) b)) (λ k l.
-    by-less k (8 * i) (λ h. sets-low 0 b u (8 * i) k h ∙ sets-low 0 a t (8 * i) k h ∙ sym (sets-low 0 b t (8 * i) k h)) (λ g.
-    by-less k (8 * i + 8)
-    (λ h.
-    let e : k ≡ 8 * i + (k - 8 * i) = omega arith in
-    ap (λ n. getD (withRecord u i b) n 0) e ∙ record-byte u i b eb (omega arith) (k - 8 * i) (omega arith) ∙ sym (ap (λ n. getD (withRecord t i b) n 0) e ∙ record-byte t i b eb f (k - 8 * i) (omega arith)))
-    (λ h. sets-high 0 b u (8 * i) k (omega arith) ∙ sets-high 0 a t (8 * i) k (omega arith) ∙ sym (sets-high 0 b t (8 * i) k (omega arith)))))
-
--- all cells of a rectangle are empty if each of them is
-empty-of : (occ : ℕ → ℕ → Bool) (r : Rect) → ((x y : ℕ) → covers r x y ≡ true → occ x y ≡ false) → cellsEmpty occ r ≡ true
-empty-of occ r h = cellsEmpty-yes occ 0 0 r (λ x y a b c d. h x y (covers-in r x a b y ∙ within-yes (r .y) (r .h) y c d))
-
-module _ (W H : ℕ) (s : List ℤ) (t : List ℕ) (i : ℕ) (p : Taking W H s t i) where
-  abbrev gone : List ℕ
-  gone = withRecord t i freeRecord
+  -- ---- another module under its id may be put into its slot (an exchange)
 
   -- THE ID IS THEN PLACED NO MORE
-  pub id-gone : idPlaced gone (idOf t i) ≡ false
+  pub id-gone : idPlaced taken (idOf t i) ≡ false
   unfolding idPlaced
   id-gone =
-      none-any (slots gone) (hasId gone (idOf t i)) (λ j l.
-      by-same j i (λ q. ap (λ f. not f && eqb (idOf gone j) (idOf t i)) (ap (freeSlot gone) q ∙ taken-less W H s t i p .unused)) (λ ne.
-      let a = taken-alike W H s t i p in
-      fails (hasId gone (idOf t i) j) (λ e.
+      none-any (slots taken) (hasId taken (idOf t i)) (λ j l.
+      by-same j i (λ q. ap (λ f. not f && eqb (idOf taken j) (idOf t i)) (ap (freeSlot taken) q ∙ taken-free)) (λ ne.
+      let a = taken-alike in
+      fails (hasId taken (idOf t i) j) (λ e.
       not-both (sameId t i j)
-      (and-both (and-both (ap not (p .used)) (ap not (sym (alike-free a j ne)) ∙ and-left (usedSlot gone j) (eqb (idOf gone j) (idOf t i)) e))
-      (eq-eqb (idOf t i) (idOf t j) (sym (sym (alike-id a j ne) ∙ eqb-true (idOf gone j) (idOf t i) (and-right (usedSlot gone j) (eqb (idOf gone j) (idOf t i)) e)))))
+      (and-both (and-both (ap not (p .used)) (ap not (sym (alike-free a j ne)) ∙ and-left (usedSlot taken j) (eqb (idOf taken j) (idOf t i)) e))
+      (eq-eqb (idOf t i) (idOf t j) (sym (sym (alike-id a j ne) ∙ eqb-true (idOf taken j) (idOf t i) (and-right (usedSlot taken j) (eqb (idOf taken j) (idOf t i)) e)))))
       (ids-told t (standing-table W H s t (p .standing) .idsAre) i j (p .slot) (omega (arith, alike-slots a)) (λ z. ne (sym z))))))
 
   -- what was empty with it is empty without it
-  gone-empty : (r : Rect) → cellsEmpty (occupied t) r ≡ true → cellsEmpty (occupied gone) r ≡ true
-  gone-empty r e = empty-of (occupied gone) r (λ x y k. take-occupied W H s t i p x y ∙ ap (λ b. b && not (covers (rectOf t i) x y)) (empty-at (occupied t) r e x y k))
+  still-empty : (r : Rect) → cellsEmpty (occupied t) r ≡ true → cellsEmpty (occupied taken) r ≡ true
+  still-empty r e = empty-of (occupied taken) r (λ x y k. take-occupied x y ∙ ap (λ b. b && not (covers (rectOf t i) x y)) (empty-at (occupied t) r e x y k))
 
   -- A MODULE UNDER ITS ID MAY THEN BE PUT INTO ITS SLOT, wherever all cells were empty with the old one there
   pub exchange-placing : (low high : ℕ) (r : Rect) (kind : ℕ) → kind ≤ 1 → low + 256 * high ≡ idOf t i → On W H r → cellsEmpty (occupied t) r ≡ true →
-      Placing W H (fresh W H gone) gone i low high r kind
+      Placing W H (fresh W H taken) taken i low high r kind
   exchange-placing low high r kind k id place free =
-      let o = taken-less W H s t i p in
+      let o = taken-less in
       record {
-        standing = take-stands W H s t i p;
+        standing = take-stands;
         slot = o .slot;
         unused = o .unused;
         place = place;
-        empty = gone-empty r free;
-        some = omega (arith, id, taken-sound W H s t i p .id);
-        new = ap (idPlaced gone) id ∙ id-gone;
+        empty = still-empty r free;
+        some = omega (arith, id, taken-sound .id);
+        new = ap (idPlaced taken) id ∙ id-gone;
         known = k;
       }
 
   -- a new module in the place of the old one: the record is written over the old one
-  pub exchange-table : (low high : ℕ) (r : Rect) (kind : ℕ) → withRecord gone i (recordOf low high r kind) ≡ withRecord t i (recordOf low high r kind)
+  pub exchange-table : (low high : ℕ) (r : Rect) (kind : ℕ) → withRecord taken i (recordOf low high r kind) ≡ withRecord t i (recordOf low high r kind)
   exchange-table low high r kind = record-over t i freeRecord (recordOf low high r kind) refl refl (slot-fits (p .standing) (p .slot))

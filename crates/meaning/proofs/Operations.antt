@@ -38,23 +38,18 @@ module _ (q : List ℕ) where
   pub exchange-by : operation q ≡ 4 → byRule q ≡ true
   exchange-by e = or-right (isPlace q) (isExchange q) (is 4 e 4)
 
-  pub by-sized : byRule q ≡ true → hasSize q ≡ true
-  by-sized e = or-left (byRule q) (atPlace q) e
-
   pub remove-old : operation q ≡ 2 → needsOld q ≡ true
   remove-old e = or-left (isRemove q) (isExchange q) (is 2 e 2)
-
-  pub exchange-old : operation q ≡ 4 → needsOld q ≡ true
-  exchange-old e = or-right (isRemove q) (isExchange q) (is 4 e 4)
 
 -- ---- what the lines of 11 to 17 and 23 tell where none of them applies
 
 module _ (t q : List ℕ) (e : first (soundLines t q) ≡ 0) where
-  pub rule-le : byRule q ≡ true → ruleOf q ≤ 2
-  rule-le p = ltb-false 2 (ruleOf q) (then-false (byRule q) _ p (asking t q e .rule))
-
   pub size-some : hasSize q ≡ true → (1 ≤ wide q) × (1 ≤ high q)
   size-some = sizes t q (asking t q e)
+
+  -- what the choice of a place by rule asks
+  pub by-asks : byRule q ≡ true → (ruleOf q ≤ 2) × (1 ≤ wide q) × (1 ≤ high q)
+  by-asks p = let z = size-some (or-left (byRule q) (atPlace q) p) in (ltb-false 2 (ruleOf q) (then-false (byRule q) _ p (asking t q e .rule)), z .0, z .1)
 
   -- what is none of 1, 2 and 4 is 3 or 6
   pub last-op : (operation q ≡ 1 → ⊥) → (operation q ≡ 2 → ⊥) → (operation q ≡ 4 → ⊥) → AtPlace q

@@ -222,12 +222,13 @@ module _ (W H : ℕ) (s : List ℤ) (t q : List ℕ) (d : Standing W H s t) (a :
 
   module _ (f : Fitting W H t q) where
     -- a place by rule
-    chosen-place : byRule q ≡ true → hasSize q ≡ true → (r : Rect) × (rulePlace (occupied t) W H (ruleOf q) (wide q) (high q) ≡ some r) × Empty (occupied t) W H r
-    chosen-place e h =
-        let z = sizes t q a h in
+    chosen-place : byRule q ≡ true → (r : Rect) × (rulePlace (occupied t) W H (ruleOf q) (wide q) (high q) ≡ some r) × On W H r × (cellsEmpty (occupied t) r ≡ true)
+    chosen-place e =
+        let z = sizes t q a (or-left (byRule q) (atPlace q) e) in
         let p : position (occupied t) W H (wide q) (high q) ≡ true = not-false _ (then-false (byRule q) _ e (f .position)) in
         let r = rule-finds (occupied t) W H (ruleOf q) (wide q) (high q) (z .0) (z .1) .1 p in
-        (r .0, r .1, rulePlace-empty (occupied t) W H (ruleOf q) (wide q) (high q) (z .0) (z .1) (r .0) (r .1))
+        let c = empty-parts (occupied t) W H (r .0) (rulePlace-empty (occupied t) W H (ruleOf q) (wide q) (high q) (z .0) (z .1) (r .0) (r .1)) in
+        (r .0, r .1, c .0, c .1)
 
     -- a new module may be put into the lowest free slot
     placing : makesNew q ≡ true → (r : Rect) → On W H r → cellsEmpty (occupied t) r ≡ true → Placing W H s t (lowestFree t) (idLow q) (idHigh q) r (kindAsked q)
@@ -247,10 +248,9 @@ module _ (W H : ℕ) (s : List ℤ) (t q : List ℕ) (d : Standing W H s t) (a :
 
     came-for : first (judging W H t q) ≡ 0 → Asked q → Came W H s t q
     came-for z (place e) =
-        let c = chosen-place (ap (λ n. eqb n 1 || eqb n 4) e) (ap (λ n. (eqb n 1 || eqb n 4) || (eqb n 3 || eqb n 6)) e) in
-        let p = empty-parts (occupied t) W H (c .0) (c .2) in
+        let c = chosen-place (ap (λ n. eqb n 1 || eqb n 4) e) in
         placed (c .0) e (step-accepted W H t q z ∙ step-for W H t q 1 e ∙ ap (λ o. Done (lowestFree t) (orNone o)) (c .1)) (c .1)
-        (placing (ap (λ n. eqb n 1 || (eqb n 3 || eqb n 6)) e) (c .0) (p .0) (p .1))
+        (placing (ap (λ n. eqb n 1 || (eqb n 3 || eqb n 6)) e) (c .0) (c .2) (c .3))
     came-for z (remove e) = removed e (step-accepted W H t q z ∙ step-for W H t q 2 e) (old-there (ap (λ n. eqb n 2 || eqb n 4) e))
     came-for z (there e) =
         let n = sizes t q a (or-right (byRule q) (atPlace q) (e .at)) in
@@ -261,10 +261,9 @@ module _ (W H : ℕ) (s : List ℤ) (t q : List ℕ) (d : Standing W H s t) (a :
         (record { wide = n .0; tall = n .1; columns = ltb-false W (byte6 q + wide q) (b .0); lines = ltb-false H (byte7 q + high q) (b .1) })
         c)
     came-for z (exchange e) =
-        let c = chosen-place (ap (λ n. eqb n 1 || eqb n 4) e) (ap (λ n. (eqb n 1 || eqb n 4) || (eqb n 3 || eqb n 6)) e) in
-        let p = empty-parts (occupied t) W H (c .0) (c .2) in
+        let c = chosen-place (ap (λ n. eqb n 1 || eqb n 4) e) in
         exchanged (c .0) e (step-accepted W H t q z ∙ step-for W H t q 4 e ∙ ap (λ o. Done (slotOf t (idAsked q)) (orNone o)) (c .1)) (c .1)
-        (old-there (ap (λ n. eqb n 2 || eqb n 4) e)) (p .0) (p .1)
+        (old-there (ap (λ n. eqb n 2 || eqb n 4) e)) (c .2) (c .3)
 
 pub came : (W H : ℕ) (s : List ℤ) (t q : List ℕ) → Standing W H s t → Came W H s t q
 came W H s t q d =
@@ -296,23 +295,16 @@ module _ (W H : ℕ) (s : List ℤ) (t q : List ℕ) (d : Standing W H s t) (i :
         (exchange-placing W H s t (slotOf t (idAsked q)) (p .taking) (idLow q) (idHigh q) m (kindAsked q) (kind-known q) (sym (p .named)) on free))
   ]
 
--- the record that is written
-pub record-put : (q : List ℕ) (r : Rect) → isRemove q ≡ false → recordAfter q r ≡ recordOf (idLow q) (idHigh q) r (kindAsked q)
-record-put q r e = ap (λ b. cond b freeRecord (recordOf (idLow q) (idHigh q) r (kindAsked q))) e
-
-pub record-free : (q : List ℕ) (r : Rect) → isRemove q ≡ true → recordAfter q r ≡ freeRecord
-record-free q r e = ap (λ b. cond b freeRecord (recordOf (idLow q) (idHigh q) r (kindAsked q))) e
-
 pub record-eight : (q : List ℕ) (r : Rect) → length (recordAfter q r) ≡ 8
 record-eight q r = split (λ l. length l ≡ 8) (isRemove q) (λ e. refl) (λ e. refl)
 
 -- the table that is left, in the words of the change
 module _ (W H : ℕ) (s : List ℤ) (t q : List ℕ) (i : ℕ) (r : Rect) where
   pub put-leaves : isRemove q ≡ false → tableAfter q (Done i r) t ≡ withRecord t i (recordOf (idLow q) (idHigh q) r (kindAsked q))
-  put-leaves e = ap (withRecord t i) (record-put q r e)
+  put-leaves e = ap (λ b. withRecord t i (cond b freeRecord (recordOf (idLow q) (idHigh q) r (kindAsked q)))) e
 
   pub take-leaves : isRemove q ≡ true → tableAfter q (Done i r) t ≡ withRecord t i freeRecord
-  take-leaves e = ap (withRecord t i) (record-free q r e)
+  take-leaves e = ap (λ b. withRecord t i (cond b freeRecord (recordOf (idLow q) (idHigh q) r (kindAsked q)))) e
 
   pub swap-leaves : isRemove q ≡ false → Taking W H s t i → tableAfter q (Done i r) t ≡ withRecord (withRecord t i freeRecord) i (recordOf (idLow q) (idHigh q) r (kindAsked q))
   swap-leaves e p = put-leaves e ∙ sym (exchange-table W H s t i p (idLow q) (idHigh q) r (kindAsked q))

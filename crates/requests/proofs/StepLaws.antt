@@ -21,7 +21,7 @@ use Rattle.rules.proofs.Tests.{or-neither, fails}
 use Rattle.meaning.proofs.Choice.{rule-finds}
 use Rattle.meaning.specs.Change.{On}
 use Rattle.meaning.proofs.Steps.{AtPlace}
-use Rattle.meaning.proofs.Operations.{place-by, exchange-by, by-sized, size-some, judgedFor, step-by, step-there-by}
+use Rattle.meaning.proofs.Operations.{place-by, exchange-by, by-asks, judgedFor, step-by, step-there-by}
 use Rattle.choice.specs.Best.{codeOf, valuesOf, codeFor, Chosen}
 use Rattle.choice.specs.declared.Choice.{Choice}
 use Rattle.choice.specs.declared.Choice.the-variants.{At, Nowhere}
@@ -74,15 +74,15 @@ module _ (W H : ℕ) (t q : List ℕ) (s : Passes t q) where
       d ≡ ruleStep (occupied t) i (rulePlace (occupied t) W H (ruleOf q) (wide q) (high q)) → d ≡ stepOf W H t q
   unfolding first
   place-rule e f i j d k =
-      let z = size-some t q s (by-sized q (place-by q e)) in
-      k ∙ rule-step (occupied t) W H (ruleOf q) (wide q) (high q) i (z .0) (z .1) ∙ sym (step-by W H t q s 1 e ∙ rw (f, sym j))
+      let z = by-asks t q s (place-by q e) in
+      k ∙ rule-step (occupied t) W H (ruleOf q) (wide q) (high q) i (z .1) (z .2) ∙ sym (step-by W H t q s 1 e ∙ rw (f, sym j))
 
   pub exchange-rule : operation q ≡ 4 → (i : ℕ) → i ≡ slotOf t (idAsked q) → (d : Step) →
       d ≡ ruleStep (occupied t) i (rulePlace (occupied t) W H (ruleOf q) (wide q) (high q)) → d ≡ stepOf W H t q
   unfolding first
   exchange-rule e i j d k =
-      let z = size-some t q s (by-sized q (exchange-by q e)) in
-      k ∙ rule-step (occupied t) W H (ruleOf q) (wide q) (high q) i (z .0) (z .1) ∙ sym (step-by W H t q s 4 e ∙ rw (sym j))
+      let z = by-asks t q s (exchange-by q e) in
+      k ∙ rule-step (occupied t) W H (ruleOf q) (wide q) (high q) i (z .1) (z .2) ∙ sym (step-by W H t q s 4 e ∙ rw (sym j))
 
 -- ---- the test of a place
 

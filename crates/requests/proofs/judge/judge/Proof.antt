@@ -3,7 +3,7 @@ use mathlib.Core.Path.{_≡_, sym, ap, _∙_}
 use Rattle.rules.specs.Judging.{first}
 use Rattle.rules.specs.Requests.{idAsked, slotOf, soundLines}
 use Rattle.requests.specs.Steps.{Passes}
-use Rattle.meaning.proofs.Operations.{step-unsound, rule-le, size-some, exchange-by, by-sized, last-op}
+use Rattle.meaning.proofs.Operations.{step-unsound, by-asks, exchange-by, last-op}
 use Rattle.requests.proofs.Lines.{form-refuses, id-decides}
 use Rattle.requests.proofs.StepLaws.{exchange-rule}
 use borrow.Author.Needs.{needs}
@@ -47,9 +47,8 @@ judge-remove-requires c κs = let k = c .before .before .before .before in
 by-rule-requires : tie.Need-by-rule-requires
 by-rule-requires c κs = let k = c .before .before .before .before .before .before in
     let p = start (formed (k .before)) in
-    let r = exchange-by (p .args .q .now) (c .if5 .taken) in
-    let z = size-some _ _ (sound k) (by-sized (p .args .q .now) r) in
-    (p .pre .0, (p .pre .1, rule-le _ _ (sound k) r, z .0, z .1))
+    let z = by-asks _ _ (sound k) (exchange-by (p .args .q .now) (c .if5 .taken)) in
+    (p .pre .0, (p .pre .1, z .0, z .1, z .2))
 
 returns-5 : tie.Need-returns-5
 returns-5 c = let k = c .before .before .before .before .before .before .before in

@@ -1,5 +1,5 @@
 -- `requests::judge::judge_place` meets its contract. Assumes nothing.
-use Rattle.meaning.proofs.Operations.{none-free, one-free, rule-le, size-some, place-by, by-sized}
+use Rattle.meaning.proofs.Operations.{none-free, one-free, by-asks, place-by}
 use Rattle.requests.proofs.StepLaws.{place-full, place-rule}
 use borrow.Author.Needs.{needs}
 use Rattle.requests.proofs.judge.judge_place.Statement.{statement}
@@ -11,10 +11,8 @@ returns c = let p = c .before .before .before .before in
 
 by-rule-requires : tie.Need-by-rule-requires
 by-rule-requires c κs = let p = c .before .before .before .before in
-    let n = p .pre .1 .1 in
-    let r = place-by (p .args .q .now) (p .pre .1 .2) in
-    let z = size-some _ _ n (by-sized (p .args .q .now) r) in
-    (p .pre .0, (p .pre .1 .0, rule-le _ _ n r, z .0, z .1))
+    let z = by-asks _ _ (p .pre .1 .1) (place-by (p .args .q .now) (p .pre .1 .2)) in
+    (p .pre .0, (p .pre .1 .0, z .0, z .1, z .2))
 
 returns-2 : tie.Need-returns-2
 returns-2 c = let p = c .before .before .before .before .before in
