@@ -109,27 +109,28 @@ pub removed-reached : reachings storyRemoved ≡ (0 ∷ 1 ∷ 2 ∷ 3 ∷ []) �
 unfolding caseHolds reaches mayChange
 removed-reached = refl
 
--- ---- an exchange: then id 1 gives way to 1×2 at the bottom, and id 5 is pinned at row 0
+-- ---- exchanges whose old and new stretch meet in one column (order 3): 2×4, id 1 pinned at (0,1). By rule 0 it gives way to 1×1 right above it, at (0,0); by rule 2 to 1×2 at the bottom, at (0,2); by rule 1 to
+-- 1×1 right above that, at (0,1). Then id 5 is pinned at (0,0)
 
 abbrev pub storyExchanged : Story
-storyExchanged = record { w = 1; h = 4; slots = 3; block = pin 1 0 0 1 1 ++ pin 2 0 2 1 1 ++ remove 2 ++ eight 4 2 1 0 1 2 0 0 ++ pin 5 0 0 1 1 }
+storyExchanged = record { w = 2; h = 4; slots = 3; block = pin 1 0 1 1 1 ++ eight 4 0 1 0 1 1 0 0 ++ eight 4 2 1 0 1 2 0 0 ++ eight 4 1 1 0 1 1 0 0 ++ pin 5 0 0 1 1 }
 
 pub exchanged-told : tellings storyExchanged
-    ≡ (moduleAt 0 1 (rect 0 0 1 1) 0 ∷ [])
-    ∷ (moduleAt 1 2 (rect 0 2 1 1) 0 ∷ moduleAt 0 1 (rect 0 0 1 1) 0 ∷ [])
+    ≡ (moduleAt 0 1 (rect 0 1 1 1) 0 ∷ [])
     ∷ (moduleAt 0 1 (rect 0 0 1 1) 0 ∷ [])
     ∷ (moduleAt 0 1 (rect 0 2 1 2) 0 ∷ [])
-    ∷ (moduleAt 1 5 (rect 0 0 1 1) 0 ∷ moduleAt 0 1 (rect 0 2 1 2) 0 ∷ [])
+    ∷ (moduleAt 0 1 (rect 0 1 1 1) 0 ∷ [])
+    ∷ (moduleAt 1 5 (rect 0 0 1 1) 0 ∷ moduleAt 0 1 (rect 0 1 1 1) 0 ∷ [])
     ∷ []
 unfolding caseHolds history leastUnused slotIn
 exchanged-told = refl
 
 pub exchanged-afresh : reckonings storyExchanged
-    ≡ (o 1 ∷ e 1 ∷ e 2 ∷ e 3 ∷ [])
-    ∷ (o 1 ∷ e 1 ∷ o 1 ∷ e 1 ∷ [])
-    ∷ (o 1 ∷ e 1 ∷ e 2 ∷ e 3 ∷ [])
-    ∷ (e 1 ∷ e 2 ∷ o 1 ∷ o 1 ∷ [])
-    ∷ (o 1 ∷ e 1 ∷ o 1 ∷ o 1 ∷ [])
+    ≡ (e 1 ∷ e 1 ∷ o 1 ∷ e 2 ∷ e 1 ∷ e 3 ∷ e 2 ∷ e 4 ∷ [])
+    ∷ (o 1 ∷ e 1 ∷ e 1 ∷ e 2 ∷ e 2 ∷ e 3 ∷ e 3 ∷ e 4 ∷ [])
+    ∷ (e 1 ∷ e 1 ∷ e 2 ∷ e 2 ∷ o 1 ∷ e 3 ∷ o 1 ∷ e 4 ∷ [])
+    ∷ (e 1 ∷ e 1 ∷ o 1 ∷ e 2 ∷ e 1 ∷ e 3 ∷ e 2 ∷ e 4 ∷ [])
+    ∷ (o 1 ∷ e 1 ∷ o 1 ∷ e 2 ∷ e 1 ∷ e 3 ∷ e 2 ∷ e 4 ∷ [])
     ∷ []
 unfolding caseHolds history leastUnused slotIn taken remains historyWeight
 exchanged-afresh = refl
@@ -138,10 +139,19 @@ pub exchanged-weights : weighings storyExchanged ≡ reckonings storyExchanged
 unfolding caseHolds history leastUnused slotIn taken remains historyWeight
 exchanged-weights = refl
 
--- the exchange: from the old module's top row down, for without it nothing is below; the last pin: down to the occupied row 2 and no further
-pub exchanged-reached : reachings storyExchanged ≡ (0 ∷ 1 ∷ 2 ∷ 3 ∷ []) ∷ (2 ∷ 3 ∷ []) ∷ (2 ∷ 3 ∷ []) ∷ (0 ∷ 1 ∷ 2 ∷ 3 ∷ []) ∷ (0 ∷ 1 ∷ []) ∷ []
+-- column 0 alone: the pin from row 1 down; the first two exchanges from row 0, the third from row 1; the last pin: down to the occupied row 1 and no further
+pub exchanged-reached : reachings storyExchanged ≡ (2 ∷ 4 ∷ 6 ∷ []) ∷ (0 ∷ 2 ∷ 4 ∷ 6 ∷ []) ∷ (0 ∷ 2 ∷ 4 ∷ 6 ∷ []) ∷ (2 ∷ 4 ∷ 6 ∷ []) ∷ (0 ∷ []) ∷ []
 unfolding caseHolds reaches mayChange
 exchanged-reached = refl
+
+-- and across columns: 3×3, id 7 at (1,1) gives way by rule 2 to 3×1 at (0,2), by rule 0 to 2×2 at (0,0). Of column 2 the first may have changed the row of the new one alone, the second that of the old
+
+abbrev pub storyAcross : Story
+storyAcross = record { w = 3; h = 3; slots = 1; block = pin 7 1 1 1 1 ++ eight 4 2 7 0 3 1 0 0 ++ eight 4 0 7 0 2 2 0 0 }
+
+pub across-reached : reachings storyAcross ≡ (4 ∷ 7 ∷ []) ∷ (4 ∷ 6 ∷ 7 ∷ 8 ∷ []) ∷ (0 ∷ 1 ∷ 3 ∷ 4 ∷ 6 ∷ 7 ∷ 8 ∷ []) ∷ []
+unfolding caseHolds reaches mayChange
+across-reached = refl
 
 -- ---- "down to the next occupied cell below it": one column of five cells, id 2 pinned at row 3. Id 1, above it, is removed, pinned again, and exchanged to
 -- 1×2 by rule 0: at (0,1)
@@ -168,43 +178,6 @@ pub slots-told : tellings storySlots
     ∷ []
 unfolding caseHolds history leastUnused slotIn
 slots-told = refl
-
--- ---- an exchange whose old and new stretch meet in one column (order 3): 2×4, id 1 pinned at (0,1). By rule 0 it gives way to 1×1 right above it, at (0,0); by rule 2 from there to 1×2 at the bottom, at
--- (0,2); by rule 1 to 1×1 at (0,1), between both
-
-abbrev pub storyMet : Story
-storyMet = record { w = 2; h = 4; slots = 1; block = pin 1 0 1 1 1 ++ eight 4 0 1 0 1 1 0 0 ++ eight 4 2 1 0 1 2 0 0 ++ eight 4 1 1 0 1 1 0 0 }
-
-pub met-told : tellings storyMet ≡ (moduleAt 0 1 (rect 0 1 1 1) 0 ∷ []) ∷ (moduleAt 0 1 (rect 0 0 1 1) 0 ∷ []) ∷ (moduleAt 0 1 (rect 0 2 1 2) 0 ∷ []) ∷ (moduleAt 0 1 (rect 0 1 1 1) 0 ∷ []) ∷ []
-unfolding caseHolds history leastUnused slotIn
-met-told = refl
-
-pub met-afresh : reckonings storyMet
-    ≡ (e 1 ∷ e 1 ∷ o 1 ∷ e 2 ∷ e 1 ∷ e 3 ∷ e 2 ∷ e 4 ∷ [])
-    ∷ (o 1 ∷ e 1 ∷ e 1 ∷ e 2 ∷ e 2 ∷ e 3 ∷ e 3 ∷ e 4 ∷ [])
-    ∷ (e 1 ∷ e 1 ∷ e 2 ∷ e 2 ∷ o 1 ∷ e 3 ∷ o 1 ∷ e 4 ∷ [])
-    ∷ (e 1 ∷ e 1 ∷ o 1 ∷ e 2 ∷ e 1 ∷ e 3 ∷ e 2 ∷ e 4 ∷ [])
-    ∷ []
-unfolding caseHolds history leastUnused slotIn taken remains historyWeight
-met-afresh = refl
-
-pub met-weights : weighings storyMet ≡ reckonings storyMet
-unfolding caseHolds history leastUnused slotIn taken remains historyWeight
-met-weights = refl
-
--- column 0 alone: the pin from row 1 down; the first two exchanges from row 0, the last from row 1
-pub met-reached : reachings storyMet ≡ (2 ∷ 4 ∷ 6 ∷ []) ∷ (0 ∷ 2 ∷ 4 ∷ 6 ∷ []) ∷ (0 ∷ 2 ∷ 4 ∷ 6 ∷ []) ∷ (2 ∷ 4 ∷ 6 ∷ []) ∷ []
-unfolding caseHolds reaches mayChange
-met-reached = refl
-
--- and across columns: 3×3, id 7 at (1,1) gives way by rule 2 to 3×1 at (0,2), by rule 0 to 2×2 at (0,0). Of column 2 the first may have changed the row of the new one alone, the second that of the old
-
-abbrev pub storyAcross : Story
-storyAcross = record { w = 3; h = 3; slots = 1; block = pin 7 1 1 1 1 ++ eight 4 2 7 0 3 1 0 0 ++ eight 4 0 7 0 2 2 0 0 }
-
-pub across-reached : reachings storyAcross ≡ (4 ∷ 7 ∷ []) ∷ (4 ∷ 6 ∷ 7 ∷ 8 ∷ []) ∷ (0 ∷ 1 ∷ 3 ∷ 4 ∷ 6 ∷ 7 ∷ 8 ∷ []) ∷ []
-unfolding caseHolds reaches mayChange
-across-reached = refl
 
 -- ---- a block (order 2): one column of four cells. Block 9 is set at row 1, in slot 0; module 1 comes above it, in slot 1, and goes; a remove and an exchange of the block are refused, 23, and
 -- note nothing; block 2 is set below it, in slot 1, which was freed
