@@ -6,9 +6,10 @@
  *   bench times            for each row the least of many times, freelist to C
  *   bench compare SEED N   N rounds of drawn surfaces and blocks, both compared
  *
- * Exit status 1 when results or bytes differ, or compare met no hard block, no
- * accepted exchange or none that the old module alone barred. A block is one of
- * requests; a hard block is "a block" of the fabric, kind 1. */
+ * Exit status 1 when results or bytes differ, requests are answered otherwise
+ * than their row says, or compare met no hard block, no accepted exchange or none
+ * that the old module alone barred. A block is one of requests; a hard block is "a
+ * block" of the fabric, kind 1. */
 #define _POSIX_C_SOURCE 199309L
 #include "plain.h"
 #include "../include/freelist.h"
@@ -32,7 +33,7 @@ enum { PLAIN, LIBRARY, SIDES };
 
 /* A call and what it is lent, small enough to be copied before each. */
 struct lent {
-    unsigned call, w, h, requests_len, room_len;
+    unsigned call, w, h, slots, requests_len, room_len;
     uint8_t weights[2 * 64 * 64], table[8 * 256], requests[8 * 512], answers[8 * 512], room[8 * 64 * 64];
 };
 
@@ -44,18 +45,19 @@ static uint64_t on(unsigned side, struct lent *l)
     struct loans lent = {
         l->w, l->h,
         { l->weights, l->table, l->requests, l->answers, l->room },
-        { 2 * l->w * l->h, sizeof l->table, l->requests_len, l->requests_len, l->room_len } };
+        { 2 * l->w * l->h, 8 * l->slots, l->requests_len, l->requests_len, l->room_len } };
     return side == PLAIN ? on_plain(l->call, &lent) : on_freelist(l->call, &lent);
 }
 
 /* ---- rows of the table ------------------------------------------------------ */
 
-enum { MEASURED = 160 };
+enum { MEASURED = 160, ANY = -1 };
 
 struct row {
     const char *name;
     unsigned first, calls;              /* measured calls, averaged */
     int is_shown;
+    int code;                           /* of every answer, or ANY */
 };
 
 static struct lent measured[MEASURED];
@@ -77,7 +79,7 @@ static struct lent *add_call(unsigned call, const struct lent *surface)
 
 static void add_row(const char *name, unsigned n, int is_shown)
 {
-    rows[row_count++] = (struct row){ name, calls - n, n, is_shown };
+    rows[row_count++] = (struct row){ name, calls - n, n, is_shown, ANY };
 }
 
 /* ---- surfaces ---------------------------------------------------------------- */
@@ -98,6 +100,7 @@ static const struct lent *painted(void)
     paint(&c, 1);
     l.w = W;
     l.h = H;
+    l.slots = 256;
     memcpy(l.weights, c.lent[WEIGHTS].byte, sizeof l.weights);
     memcpy(l.table, c.lent[TABLE].byte, sizeof l.table);
     return &l;
@@ -340,6 +343,38 @@ static void add_blocks(const char *name, unsigned side, unsigned longest, unsign
     add_row(name, n, 1);
 }
 
+/* ---- the test of a pin --------------------------------------------------------- */
+
+/* 512 requests, the two in turn. The table has 8 slots: with 256 the library's search
+ * for the id outweighs its test. */
+static void add_pins(const char *name, uint64_t q, uint64_t next, int code)
+{
+    struct lent *l = add_call(RUN, painted());
+    l->slots = 8;
+    l->requests_len = sizeof l->requests;
+    for (unsigned i = 0; i < l->requests_len; i += 16) {
+        memcpy(l->requests + i, &q, 8);
+        memcpy(l->requests + i + 8, &next, 8);
+    }
+    add_row(name, 1, 1);
+    rows[row_count - 1].code = code;
+}
+
+/* One occupied cell in the place: to a walk from the left, of all the rows from the
+ * top or of the bottom row's weights, it shows last, or first. Then none. */
+static void add_pin_tests(void)
+{
+    uint64_t pin = request(3, 0, 2, 32, 32, 16, 16), removal = request(2, 0, 2, 0, 0, 0, 0);
+    begin(64, 64);
+    lay(47, 47, 1, 1);
+    add_pins("512 pins 32×32 refused (21) by the lower right cell", pin, pin, 21);
+    begin(64, 64);
+    lay(16, 16, 1, 1);
+    add_pins("512 pins 32×32 refused (21) by the upper left cell", pin, pin, 21);
+    begin(64, 64);
+    add_pins("pin 32×32 and remove, 256 times", pin, removal, 0);
+}
+
 /* ---- small blocks, and clear --------------------------------------------------- */
 
 static void add_block_of(const char *name, const struct lent *surface, unsigned n, uint64_t q)
@@ -387,6 +422,7 @@ static void make_all(void)
         add_call(CLEAR, painted());
         add_row("clear", 1, 1);
     }
+    add_pin_tests();
 }
 
 /* ---- the same result and bytes --------------------------------------------------- */
@@ -415,13 +451,29 @@ static uint64_t both_on(const struct lent *l, const char *name)
     return ra;
 }
 
+/* What the library left last, held against the row's code. */
+static void hold_to_code(const struct row *r)
+{
+    if (r->code == ANY)
+        return;
+    for (unsigned i = 0; i < of_library.requests_len; i += 8)
+        if (of_library.answers[i] != r->code) {
+            fprintf(stderr, "bench: %s: request %u answered with %u\n", r->name, i / 8,
+                    of_library.answers[i]);
+            differ++;
+            return;
+        }
+}
+
 static int count(void)
 {
     make_all();
     for (unsigned i = 0; i < row_count; i++)
-        for (unsigned k = 0; k < rows[i].calls; k++)
+        for (unsigned k = 0; k < rows[i].calls; k++) {
             if (part_of(both_on(&measured[rows[i].first + k], rows[i].name), 0) != 0)
                 differ++;
+            hold_to_code(&rows[i]);
+        }
     return differ != 0;
 }
 
@@ -642,6 +694,7 @@ static void compare_surface(void)
     static struct lent l;
     W = l.w = (unsigned)c.w;
     H = l.h = (unsigned)c.h;
+    l.slots = 256;
     memset(l.weights, 0, sizeof l.weights);
     memset(l.table, 0, sizeof l.table);
     memcpy(l.weights, c.lent[WEIGHTS].byte, c.lent[WEIGHTS].len);

@@ -487,7 +487,9 @@ static int zero_byte_is_not(const struct request *q)
     return q->operation == REMOVE && (q->rule != 0 || q->w != 0 || q->h != 0);
 }
 
-/* "all its cells empty", a position being on the surface. */
+/* "all its cells empty", a position being on the surface. Cell by cell on purpose,
+ * where the library tests a pin by the weights of its bottom row (order 4): by
+ * weights here too, both could be wrong alike. */
 static int cells_are_empty(const struct surface *s, struct rectangle r)
 {
     for (unsigned y = r.y; y < r.y + r.h; y++)

@@ -390,6 +390,77 @@ static void many_exchanges(void)
     is("the same weights", memcmp(weights_left, weights, sizeof weights_left) == 0, 1);
 }
 
+/* The one occupied cell of a surface. Where counted is set it is a module's, and all rows above it
+ * and all below it were occupied before, so that the library counted their weights anew; else it is a
+ * block's on a cleared surface. */
+struct lone { int x, y, counted; };
+
+static void occupy(const struct lone *cell)
+{
+    int above = cell->counted ? cell->y : 0, below = cell->counted ? (int)rows - cell->y - 1 : 0;
+    anew_of(columns, rows, 4);
+    if (above > 0)
+        is("all rows above the cell", ask(3, 0, 2, (int)columns, above, 0, 0), 0);
+    if (below > 0)
+        is("all rows below the cell", ask(3, 0, 3, (int)columns, below, 0, cell->y + 1), 0);
+    is("the cell", ask(cell->counted ? 3 : 6, 0, 1, 1, 1, cell->x, cell->y), 0);
+    if (above > 0)
+        is("remove what is above", ask(2, 0, 2, 0, 0, 0, 0), 0);
+    if (below > 0)
+        is("remove what is below", ask(2, 0, 3, 0, 0, 0, 0), 0);
+}
+
+/* A pin of w columns and h rows at (x, y), and a set, where it lies on the surface. */
+static void with_one_cell(const struct lone *cell, int w, int h, int x, int y, unsigned expected)
+{
+    char what[80];
+    if (x < 0 || y < 0 || x + w > (int)columns || y + h > (int)rows)
+        return;
+    for (int op = 3; op <= 6; op += 3) {
+        occupy(cell);
+        snprintf(what, sizeof what, "%s %dx%d at (%d,%d), (%d,%d) occupied", op == 3 ? "pin" : "set", w, h, x, y,
+                 cell->x, cell->y);
+        is(what, ask(op, 0, 258, w, h, x, y), expected);
+        is("the surface stands", check(), 0);
+    }
+}
+
+/* A place on a surface of W columns and H rows. */
+struct place { int W, H, x, y, w, h; };
+
+/* With this cell of the place occupied, 21; and 0 where the place is moved left, right, up or down
+ * until the cell is just outside it. */
+static void in_and_beside(const struct place *p, int x, int y)
+{
+    for (int counted = 0; counted < 2; counted++) {
+        const struct lone cell = { x, y, counted };
+        with_one_cell(&cell, p->w, p->h, p->x, p->y, 21);
+        with_one_cell(&cell, p->w, p->h, x - p->w, p->y, 0);
+        with_one_cell(&cell, p->w, p->h, x + 1, p->y, 0);
+        with_one_cell(&cell, p->w, p->h, p->x, y - p->h, 0);
+        with_one_cell(&cell, p->w, p->h, p->x, y + 1, 0);
+    }
+}
+
+/* "a rectangle is empty when every cell of its bottom row has a weight of at least its height" (order
+ * 4): each corner of the place, the middle of each edge and the middle of all in turn is its only
+ * occupied cell. */
+static void one_cell(void)
+{
+    static const struct place places[] = {
+        { 3, 3, 1, 1, 1, 1 }, { 9, 9, 3, 3, 3, 3 }, { 15, 12, 5, 4, 5, 4 }, { 1, 9, 0, 3, 1, 3 },
+        { 9, 1, 3, 0, 3, 1 }, { 64, 64, 10, 0, 1, 64 }, { 64, 64, 0, 10, 64, 1 }, { 64, 64, 0, 0, 63, 63 },
+        { 64, 64, 1, 1, 63, 63 }, { 64, 64, 0, 0, 64, 64 } };
+    for (unsigned i = 0; i < sizeof places / sizeof places[0]; i++) {
+        const struct place *p = &places[i];
+        const int x[3] = { p->x, p->x + p->w / 2, p->x + p->w - 1 }, y[3] = { p->y, p->y + p->h / 2, p->y + p->h - 1 };
+        columns = (uint64_t)p->W;
+        rows = (uint64_t)p->H;
+        for (unsigned k = 0; k < 9; k++)
+            in_and_beside(p, x[k % 3], y[k / 3]);
+    }
+}
+
 /* The code of a check with these bytes 6 and 7 in slot n, put back afterwards. */
 static unsigned check_with(int n, int kind, int spare)
 {
@@ -447,6 +518,7 @@ int main(void)
     weights_below();
     last_slot();
     many_exchanges();
+    one_cell();
     kinds();
     printf("beside: %d cases, %d wrong\n", cases, wrong);
     return wrong != 0;

@@ -2,6 +2,7 @@
 #include "both.h"
 #include "calls.h"
 #include "numbers.h"
+#include "pins.h"
 #include "surfaces.h"
 
 #include <stdio.h>
@@ -85,6 +86,24 @@ static void add_at_place(unsigned op)
 
 static void add_pin(void) { add_at_place(3); }
 static void add_set(void) { add_at_place(6); }
+
+/* "a weight of at least its height" (order 4): a pin with no row to spare or a row too
+ * many, by the weights before the block, the first tall one of a few drawn; another
+ * there while it stands, and one more when it has gone. */
+static void add_high(void)
+{
+    uint8_t r[4];
+    unsigned id = from_to(1, 65533), op = one_in(4) ? 6 : 3, tries = 6;
+    do
+        draw_high_place(on, r);
+    while (--tries > 0 && r[3] < TALL_FROM);
+    add(3, 0, id, r[2], r[3], r[0], r[1]);
+    add(op, 0, id + 1, r[2], r[3], r[0], r[1]);
+    add(2, 0, id, 0, 0, 0, 0);
+    add(op, 0, id + 2, r[2], r[3], r[0], r[1]);
+    if (!one_in(4))
+        add(2, 0, id + 2, 0, 0, 0, 0);
+}
 
 /* The sum in a byte would be on the surface. */
 static void add_wrapping_pin(void)
@@ -173,7 +192,7 @@ static void add_many(void)
 
 static void add_some(void)
 {
-    switch (below(19)) {
+    switch (below(20)) {
     case 0: add_any(); break;
     case 1: case 2: case 3: add_remove(); break;
     case 4: case 5: case 6: add_pin(); break;
@@ -184,6 +203,7 @@ static void add_some(void)
     case 13: add_set(); break;
     case 14: add_at_hard(); break;
     case 15: add_across(); break;
+    case 16: add_high(); break;
     default: add_place(); break;
     }
 }
@@ -192,6 +212,8 @@ static void draw_requests(const struct call_case *c, unsigned n)
 {
     on = c;
     drawn = 0;
+    if (one_in(2))
+        add_high();
     while (drawn < n)
         add_some();
     drawn = n;
@@ -265,8 +287,9 @@ static void in_blocks(const struct call_case *start, unsigned n, unsigned size, 
 }
 
 struct exchanges exchanged;
+struct tall pinned;
 
-/* The history one request at a time, with its exchanges counted. */
+/* The history one request at a time, with its exchanges and its tall pins counted. */
 static void one_by_one(const struct call_case *start, unsigned n, struct call_case *end)
 {
     static struct bytes weights, table;
@@ -280,6 +303,7 @@ static void one_by_one(const struct call_case *start, unsigned n, struct call_ca
                                 .at = { [WEIGHTS] = weights.byte, [TABLE] = table.byte },
                                 .len = { [WEIGHTS] = weights.len, [TABLE] = table.len } };
         count_exchange(&exchanged, &before, requests + 8 * at, lent[ANSWERS].byte);
+        count_tall(&pinned, requests + 8 * at, lent[ANSWERS].byte);
     }
 }
 

@@ -5,6 +5,7 @@
 
 #include "../exchanges.h"
 #include "lending.h"
+#include "pins.h"
 
 /* A block on the case's surface, whether it stands or not. */
 void some_block(struct call_case *c);
@@ -20,8 +21,9 @@ void block_edges(struct call_case *c);
 /* A history on the case's surface. */
 void history(struct call_case *c);
 
-/* The exchanges of all histories. */
+/* The exchanges of all histories, and their tall pins and sets. */
 extern struct exchanges exchanged;
+extern struct tall pinned;
 
 /* A block that gives each code of each operation. */
 void every_request_code(struct call_case *c);

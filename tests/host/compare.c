@@ -6,8 +6,8 @@
  *
  * Exit status 0 when no case differs, every code was given that may be, and no
  * other, some list filled a room of W entries for each scanned row, each shape had
- * blocks of the fabric, and exchanges were accepted beside the old module and refused
- * for it alone (order 3). */
+ * blocks of the fabric, exchanges were accepted beside the old module and refused
+ * for it alone (order 3), and tall pins were accepted and refused (order 4). */
 #include "all34.h"
 #include "blocks.h"
 #include "both.h"
@@ -105,6 +105,14 @@ static int each_shape_had_hard(void)
     return had;
 }
 
+/* At least one for each round, of those accepted and of those refused; a sample is
+ * too short here too. */
+static int had_tall(unsigned long scale)
+{
+    print_tall(&pinned);
+    return is_sample || tall_came_up(&pinned, scale);
+}
+
 static int end(int is_whole)
 {
     print_seen();
@@ -146,6 +154,7 @@ static int rounds(uint64_t seed, unsigned long scale)
     print_kinds();
     print_exchanges(&exchanged);
     int is_whole = codes_amiss() == 0 && exchanges_came_up(&exchanged);
+    is_whole &= had_tall(scale);
     return end(each_shape_had_hard() && is_whole);
 }
 

@@ -20,14 +20,16 @@ $nm "$archive" | grep -q ' T freelist_run$' || { echo "run.sh: the archive has n
 [ "${3:-}" = long ] && scale=$((20 * scale))
 
 sources=
-for part in compare all34 blocks both calls damage lending numbers surfaces; do
+for part in compare all34 blocks both calls damage lending numbers pins surfaces; do
     sources="$sources $here/$part.c"
 done
 $cc $flags -o "$build/compare" $sources $brute "$archive"
 for alone in beside unwritten; do
     $cc $flags -o "$build/$alone" "$here/$alone.c" "$archive"
 done
-$cc $flags -o "$build/wrong_inner_only" "$here/wrong_inner_only.c" "$here/surfaces.c" "$here/numbers.c" $brute "$archive"
+for wrong in wrong_inner_only wrong_bottom_row; do
+    $cc $flags -o "$build/$wrong" "$here/$wrong.c" "$here/laid.c" "$here/numbers.c" "$here/pins.c" "$here/surfaces.c" $brute "$archive"
+done
 
 echo "-- each code given, and withheld just beside"
 $start "$build/beside"
@@ -39,8 +41,9 @@ for seed in $seeds; do
 done
 echo "-- every way to lay modules on 3x4 and on 4x3"
 $start "$build/compare" all34
-echo "-- a wrong build"
+echo "-- wrong builds"
 $start "$build/wrong_inner_only"
+$start "$build/wrong_bottom_row"
 if [ -n "$start" ]; then
     echo "-- no sample under memcheck: valgrind runs programs of its machine's processor only"
     exit 0

@@ -1,15 +1,18 @@
 /* "In the test of a position, leaving only the inner of two nested walks at an
  * occupied cell: the next row then goes on and an occupied place passes."
  *
- * The walk of a position test and of an overlap test, in the form that the
- * library has, with what is left at an occupied cell as its one parameter. On
- * surfaces and tables drawn at random the walk that leaves both loops says what
- * the library answers, of each pin (0 or 21) and of each table (0 or 6); the one
- * that leaves the inner loop only passes occupied places, in so many of the same
- * cases that no library built so could agree with the brute force, which
- * compare.c asks on such surfaces. Exit status 0 when all this is so. */
+ * The walk of a position test and of an overlap test over rows and columns, with
+ * what is left at an occupied cell as its one parameter. On surfaces and tables
+ * drawn at random the walk that leaves both loops says what the library answers, of
+ * each pin (0 or 21) and of each table (0 or 6); the one that leaves the inner loop
+ * only passes occupied places, in so many of the same cases that no library built
+ * so could agree with the brute force, which compare.c asks on such surfaces. (A pin
+ * is tested by the weights of its bottom row, order 4: wrong_bottom_row.c. Its
+ * answers are those of a walk over all its cells.) Exit status 0 when all this is
+ * so. */
 #include "host.h"
 #include "numbers.h"
+#include "pins.h"
 #include "surfaces.h"
 
 #include <stdio.h>
@@ -43,17 +46,6 @@ rows:
 
 static struct call_case c;
 
-static void draw_rectangle(uint8_t r[4], unsigned limit)
-{
-    unsigned W = (unsigned)c.w, H = (unsigned)c.h;
-    unsigned w = from_to(1, W < limit ? W : limit), h = from_to(1, H < limit ? H : limit);
-    unsigned x = below(W - w + 1), y = below(H - h + 1);
-    r[0] = (uint8_t)x;
-    r[1] = (uint8_t)y;
-    r[2] = (uint8_t)w;
-    r[3] = (uint8_t)h;
-}
-
 /* ---- the test of a position: a pin ---------------------------------------- */
 
 /* The cells with negative weights. */
@@ -64,47 +56,6 @@ static int pin_passes(const uint8_t r[4], int leaves)
         for (unsigned x = 0; x < c.w; x++)
             cells.taken[y][x] = get_weight(&c, x, y) < 0;
     return none_taken(&cells, r, leaves, 0);
-}
-
-/* The lowest id that no slot has, so that 15 does not come before 21. */
-static unsigned unused_id(void)
-{
-    unsigned id = 0;
-    int is_there = 1;
-    while (is_there) {
-        id++;
-        is_there = 0;
-        for (uint64_t i = 0; i < c.lent[TABLE].len; i += 8)
-            is_there |= c.lent[TABLE].byte[i] + 256u * c.lent[TABLE].byte[i + 1] == id;
-    }
-    return id;
-}
-
-/* The library's answer to a pin there. */
-static unsigned pin_code(const uint8_t r[4])
-{
-    uint8_t request[8], answer[8];
-    struct bytes *weights = &c.lent[WEIGHTS], *table = &c.lent[TABLE];
-    put_request(request, 3, 0, unused_id(), r[2], r[3], r[0], r[1]);
-    uint64_t result = freelist_run(c.w, c.h, weights->byte, weights->len, table->byte, table->len,
-                                   request, 8, answer, 8);
-    return freelist_code(result) == 0 ? answer[0] : 255;
-}
-
-static int has_free_slot(void)
-{
-    for (uint64_t i = 0; i < c.lent[TABLE].len; i += 8)
-        if (!is_used(c.lent[TABLE].byte + i))
-            return 1;
-    return 0;
-}
-
-/* With a free slot, so that 19 does not come before 21. */
-static void draw_surface(unsigned shape)
-{
-    do
-        small_surface(&c, shape);
-    while (!has_free_slot());
 }
 
 /* ---- the overlap test: a check --------------------------------------------- */
@@ -129,7 +80,7 @@ static void draw_table(void)
     for (unsigned i = 0; i < modules; i++) {
         uint8_t *slot = c.lent[TABLE].byte + 8 * i;
         slot[0] = (uint8_t)(i + 1);
-        draw_rectangle(slot + 2, 4);
+        draw_place(&c, slot + 2, 4);
     }
     paint(&c, one_in(2));
 }
@@ -165,10 +116,10 @@ int main(void)
     numbers_from(6);
     for (unsigned i = 0; i < PINS; i++) {
         uint8_t r[4];
-        draw_surface(i % SHAPES);
-        draw_rectangle(r, 64);
+        surface_with_free_slot(&c, i % SHAPES);
+        draw_place(&c, r, 64);
         int right = pin_passes(r, BOTH), wrong = pin_passes(r, INNER_ONLY);
-        count(&pins, pin_code(r), 21, right, wrong);
+        count(&pins, library_code(&c, 3, r), 21, right, wrong);
     }
     for (unsigned i = 0; i < TABLES; i++) {
         draw_table();

@@ -3,7 +3,7 @@
 -- lends of a surface, the bytes of its weights and its table; r is the number returned; a prime marks what a buffer holds afterwards. A RunCall c is a call of run: what it was lent, returned
 -- and left, and its contract (demands/specs/Chain). The proofs stand in the files that the `use` lines name. No axiom is used.
 use mathlib.Core.Path.{_≡_}
-use mathlib.Core.Bool.{true, false, not, cond}
+use mathlib.Core.Bool.{true, false, not, cond, _&&_}
 use mathlib.Core.Logic.{_↔_}
 use mathlib.Core.List.{List, _∷_, _++_, List·Memᴰ}
 use mathlib.Core.Option.{some}
@@ -12,13 +12,14 @@ use lib.Dec.{eqb}
 use lib.ListN.{length, getD}
 use Rattle.rules.specs.Tests.{count, all}
 use Rattle.rules.specs.Surface.{Standing, rect, covers, slots, rectOf, kindOf, freeSlot, recordOf, freeRecord, withRecord, occupied, cell, fresh, usedSlots}
-use Rattle.rules.specs.Empties.{Empty, scanned, scannedRows}
+use Rattle.rules.specs.Empties.{onSurface, empty, Empty, bottomReaches, scanned, scannedRows}
 use Rattle.rules.specs.Judging.{FirstThat}
-use Rattle.rules.specs.Requests.{idLow, idHigh, idAsked, ruleOf, wide, high, byRule, isRemove, isExchange, isSet, atPlace, makesNew, needsOld, kindAsked, idPlaced, slotOf, lowestFree, pinned, rulePlace, judging, stepOf, answerOf}
+use Rattle.rules.specs.Requests.{idLow, idHigh, idAsked, ruleOf, wide, high, byRule, isRemove, isExchange, isSet, atPlace, makesNew, needsOld, kindAsked, idPlaced, slotOf, someFree, lowestFree, pinned, rulePlace, judging, stepOf, answerOf}
 use Rattle.rules.specs.Place.{pinLines}
 use Rattle.rules.specs.Blocks.{requests, request}
 use Rattle.rules.specs.Calls.{badBlock, clearLines, checkLines, runLines, listLines, resultOf, codeOfResult, firstOfResult, secondOfResult}
 use Rattle.rules.specs.Host.{LentSurface, lent, weightsIn, bytesOf, badBytes, hostCheck, hostRun, HostClearedBy, HostListedBy}
+use Rattle.rules.specs.declared.Rect.{Rect}
 use Rattle.meaning.proofs.Counts.{used-few, accepted-few}
 use Rattle.demands.specs.Sound.{Sound, SlotForIt, SoundTo16, asPin}
 use Rattle.demands.specs.History.{Module, codeIn, placeIn, history, historyWeight}
@@ -406,3 +407,27 @@ pub old-goes : (W H : ℕ) (c : RunCall W H) → NotRefused c → (k : ℕ) → 
     let id = idAsked (asked c k) in
     ((j : ℕ) → SlotOfId t′ j id → j ≡ slotOf t id) × ((x y : ℕ) → covers (rectOf t (slotOf t id)) x y ≡ true → occupied t′ x y ≡ false)
 old-goes W H = A.answer-old-goes
+
+-- ==== ORDER 4: "Show the pin test by the weights. .. a rectangle is empty when every cell of its bottom row has a weight of at least its height." (Of the definitions, both ways, and over any occupied
+-- test: meaning/proofs/Theorems, `empty-exactly`, `empty-by-weights`, `bottom-is`, `empty-by-columns`. "Answers and promises stay as they are": no contract and no statement above has changed.)
+
+-- in the bytes that a host has lent, where check gives 0: the test of the bottom row's weights says of every rectangle that lies on the surface whether it is empty
+pub checked-by-weights : (W H : ℕ) (l : LentSurface) {r : ℕ} → r ≡ hostCheck W H l → codeOfResult r ≡ 0 →
+    (a : Rect) → empty (occupied (l .table)) W H a ≡ (onSurface W H a && bottomReaches W (weightsIn l) a)
+checked-by-weights = K.checked-by-weights
+
+-- and by that test pins and sets are answered: 0 exactly where the request is sound, lies on the surface, a slot is free, and every cell of its bottom row has a weight of at least its height; 21
+-- exactly where all this is so but the last
+pub pin-accepted-exactly : (W H : ℕ) (c : RunCall W H) → NotRefused c → (k : ℕ) → k < requests (c .block) →
+    let t = upTo c k .table in
+    let q = asked c k in
+    atPlace q ≡ true →
+    (codeIn (answered c k) ≡ 0) ↔ (Sound t q × (onSurface W H (pinned q) ≡ true) × (someFree t ≡ true) × (bottomReaches W (upTo c k .weights) (pinned q) ≡ true))
+pin-accepted-exactly W H c e k l a = A.answer-pin-exactly c e k l a true
+
+pub pin-refused-exactly : (W H : ℕ) (c : RunCall W H) → NotRefused c → (k : ℕ) → k < requests (c .block) →
+    let t = upTo c k .table in
+    let q = asked c k in
+    atPlace q ≡ true →
+    (codeIn (answered c k) ≡ 21) ↔ (Sound t q × (onSurface W H (pinned q) ≡ true) × (someFree t ≡ true) × (bottomReaches W (upTo c k .weights) (pinned q) ≡ false))
+pin-refused-exactly W H c e k l a = A.answer-pin-exactly c e k l a false

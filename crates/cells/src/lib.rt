@@ -5,6 +5,8 @@ ghost use lib.ListN.{length, getD, set};
 ghost use lib.IntN.{pos, negℤ};
 ghost use lib.Signed.{ltZ};
 ghost use Rattle.rules.specs.Tests.{eqZ};
+ghost use Rattle.rules.specs.Surface.{rect};
+ghost use Rattle.rules.specs.Empties.{bottomReaches};
 ghost use Rattle.cells.specs.Weight.{takenZ, countOf, widthOf, untaken};
 
 pub fn is_taken(v: i16) -> bool
@@ -118,4 +120,22 @@ pub fn none_taken(s: &[i16], w: usize, x: usize, y: usize, mw: usize, mh: usize)
         j += 1;
     }
     free
+}
+
+// Order 4: "a rectangle is empty when every cell of its bottom row has a weight of at least its height". The walk of that row ends at the first weight below the height.
+pub fn bottom_reaches(s: &[i16], w: usize, x: usize, y: usize, mw: usize, mh: usize) -> bool
+    requires { ⌜ (x + mw ≤ w) × ((y + mh) * w ≤ length (now s)) ⌝ }
+    requires { ⌜ (1 ≤ mw) × (1 ≤ mh) × (mh ≤ 32767) ⌝ }
+    ensures { λ r. ⌜ r ≡ bottomReaches w (now (s .entry)) (rect x y mw mh) ⌝ }
+{
+    let least = counted(mh);
+    let at = (y + mh - 1) * w + x;
+    let mut c = 0;
+    while c < mw {
+        if is_less(s[at + c], least) {
+            return false;
+        }
+        c += 1;
+    }
+    true
 }

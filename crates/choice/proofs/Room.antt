@@ -1,5 +1,5 @@
 -- THE ROWS THAT ARE PASSED OVER HAVE NO ENTRY WITH ROOM FOR THE MODULE. Assumes nothing.
-use mathlib.Core.Path.{_≡_, refl, sym, ap, _∙_}
+use mathlib.Core.Path.{_≡_, refl, ap, _∙_}
 use mathlib.Core.Bool.{true, false, not}
 use mathlib.Core.Logic.{⊎-elim}
 use mathlib.Core.List.{List, [], _∷_, List·Memᴰ, Memᴰ·of-map}
@@ -7,21 +7,21 @@ use Prim.Native.Nat.{ℕ, suc, _+_, _-_, _≤_, _<_}
 use native.Mathlib.Nat.{le-refl, eq-or-lt-of-le}
 use native.Mathlib.Decide.{decLt}
 use native.Mathlib.Omega.{arith}
-use lib.IntN.{ℤ, pos, negsuc}
-use lib.Signed.{ltZ}
-use borrow.Author.Tests.{ltb-true, not-true}
+use lib.IntN.{ℤ, pos}
+use lib.Signed.{leZ, ltZ}
+use borrow.Author.Tests.{le-leb, not-true}
 use Rattle.rules.specs.Tests.{all}
 use Rattle.rules.specs.Surface.{occupied, cell, Standing}
 use Rattle.rules.specs.Requests.{fits}
 use Rattle.rules.specs.declared.Rect.{Rect}
-use Rattle.rules.proofs.Tests.{and-left, and-right, fails, all-yes}
-use Rattle.cells.specs.Weight.{takenZ, countOf}
+use Rattle.rules.proofs.Tests.{and-left, and-right, and-both, not-both, fails, at-least, all-yes}
+use Rattle.meaning.proofs.Bottom.{cell-reaches}
 use Rattle.listing.specs.Row.{Entry}
 use Rattle.listing.specs.Meaning.{IsEntry}
 use Rattle.listing.specs.Listed.{heightOf, support, entryRect, entriesIn, rectsIn}
 use Rattle.listing.proofs.Meaning.{entries-mem}
 use Rattle.listing.proofs.ListLaws.{drawn}
-use Rattle.listing.proofs.Cells.{height-past, height-taken, taken-is, count-is}
+use Rattle.listing.proofs.Cells.{height-in, height-past, height-taken}
 use Rattle.choice.specs.Best.{better, bestOf}
 use Rattle.choice.specs.Room.{noneFits}
 use Rattle.choice.specs.declared.Best.{Best}
@@ -88,11 +88,11 @@ module _ (W H : ℕ) (s : List ℤ) (t : List ℕ) (S : Standing W H s t) (y : �
 
   -- A WEIGHT BELOW m IS NOT HIGH ENOUGH
   pub too-low : (m x : ℕ) → x < W → ltZ (cell W s x y) (pos m) ≡ true → Tall f m x → ⊥
-  too-low m x px = go (cell W s x y) refl
-    where
-      go : (z : ℤ) → cell W s x y ≡ z → ltZ z (pos m) ≡ true → Tall f m x → ⊥
-      go (pos n) e q h = omega (arith, h .enough, ltb-true n m q, sym (count-is W H s t S x y px py) ∙ ap countOf e)
-      go (negsuc n) e q h = omega (arith, h .free, height-taken (occupied t) W y x (sym (taken-is W H s t S x y px py) ∙ ap takenZ e))
+  too-low m x px q h =
+      not-both (leZ (pos m) (cell W s x y))
+      (cell-reaches W H s t (S .sound) x y m px py
+      ∙ and-both (ap not (fails (occupied t x y) (λ e. omega (arith, h .free, height-taken (occupied t) W y x e)))) (le-leb m _ (omega (arith, h .enough, height-in (occupied t) W y x px))))
+      (at-least m (cell W s x y) ∙ ap not q)
 
   -- no entry of the row with room, none of the row's rectangles
   none-fits : (w h : ℕ) → ((e : Entry) → List·Memᴰ e (entriesIn (occupied t) W H y) → w ≤ suc (e .right) - e .left → h ≤ e .high → ⊥)

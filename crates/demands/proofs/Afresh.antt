@@ -1,12 +1,12 @@
 -- THE WEIGHTS WORKED OUT AFRESH FROM THE HISTORY are those of a table that it tells. Assumes nothing.
 use mathlib.Core.Path.{_≡_, refl, sym, ap, ap₂, _∙_, fun-ext}
-use mathlib.Core.Bool.{Bool, true, not, cond, _&&_, false≢true}
+use mathlib.Core.Bool.{true, not, cond, _&&_, false≢true}
 use mathlib.Core.List.{List, [], _∷_, List·Memᴰ, List·Memᴰ·head, List·Memᴰ·tail, List·Memᴰ·not-nil}
 use Prim.Native.Nat.{ℕ, _<_}
 use borrow.Author.Tests.{not-true}
 use lib.IntN.{ℤ, pos, negℤ}
 use Rattle.rules.specs.Surface.{Standing, covers, slots, idOf, rectOf, kindOf, freeSlot, holds, occupied, holder, upwards, number, weight, cell}
-use Rattle.rules.proofs.Tests.{and-both, not-both, fails, or-left, or-right, any-at, any-yes}
+use Rattle.rules.proofs.Tests.{and-both, not-both, both-ways, or-left, or-right, any-at, any-yes}
 use Rattle.meaning.proofs.Splits.{split, by-test, by-same, by-cons}
 use Rattle.meaning.proofs.Weights.{holds-covers, holds-used, holds-both, holder-low, holder-holds, weight-number, weight-empty, stands-cell}
 use Rattle.meaning.specs.Column.{numberAt}
@@ -41,9 +41,6 @@ module _ (x y : ℕ) where
       (λ p.
       let w = taken-at h (rw p at e) in
       record { which = w .which; «in» = List·Memᴰ·tail (w .«in»); has = w .has; is = ap (λ b. cond b (number (m .slot) (m .place) x) (remains h x y)) p ∙ w .is })
-
-both-ways : (a b : Bool) → (a ≡ true → b ≡ true) → (b ≡ true → a ≡ true) → a ≡ b
-both-ways a b f g = by-test a (λ e. e ∙ sym (f e)) (λ e. e ∙ sym (fails b (λ k. not-both a (g k) e)))
 
 module _ (h : List Module) (t : List ℕ) (d : Told h t) where
   holds-of : (x y : ℕ) (m : Module) → HasModule t m → covers (m .place) x y ≡ true → holds t x y (m .slot) ≡ true

@@ -1,6 +1,6 @@
 -- THE REQUESTS OF A CALL THAT WAS NOT REFUSED, each with its answer in the host's bytes. Assumes nothing.
 use mathlib.Core.Path.{_≡_, refl, sym, ap, ap₂, _∙_, subst}
-use mathlib.Core.Bool.{true, false, cond, _||_}
+use mathlib.Core.Bool.{Bool, true, false, cond, _||_}
 use mathlib.Core.Logic.{_↔_}
 use mathlib.Core.List.{List}
 use Prim.Native.Nat.{ℕ, suc, _+_, _*_, _≤_, _<_}
@@ -12,8 +12,8 @@ use lib.ListN.{getD, drop}
 use lib.Seq.{getD-take, getD-drop}
 use Rattle.rules.specs.Judging.{first, FirstThat}
 use Rattle.rules.specs.Surface.{rect, slots, covers, rectOf, kindOf, isHard, recordOf, freeRecord, freeSlot, withRecord, occupied}
-use Rattle.rules.specs.Empties.{Empty}
-use Rattle.rules.specs.Requests.{operation, kindAsked, idLow, idHigh, idAsked, wide, high, byRule, isPlace, isRemove, isPin, isExchange, isSet, atPlace, makesNew, needsOld, pinned, judgedTo, idPlaced, slotOf, lowestFree, judging, stepOf, codeOf, valuesOf, answerOf, tableAfter, acceptedOne}
+use Rattle.rules.specs.Empties.{onSurface, Empty, bottomReaches}
+use Rattle.rules.specs.Requests.{operation, kindAsked, idLow, idHigh, idAsked, wide, high, byRule, isPlace, isRemove, isPin, isExchange, isSet, atPlace, makesNew, needsOld, pinned, judgedTo, idPlaced, slotOf, someFree, lowestFree, judging, stepOf, codeOf, valuesOf, answerOf, tableAfter, acceptedOne}
 use Rattle.rules.specs.Place.{pinLines, pinStep}
 use Rattle.rules.specs.Blocks.{requests, request, nextBy, afterBy}
 use Rattle.rules.specs.Host.{weightsIn}
@@ -130,6 +130,10 @@ module _ {W H : ℕ} (c : RunCall W H) (e : NotRefused c) (k : ℕ) (l : k < req
   unfolding pinStep
   answer-at-place-first a =
       rw (code-is ∙ ap codeOf (pin-step W H t q a) ∙ judged-code (first (pinLines W H t q)) (lowestFree t) (pinned q)) (first-is (pinLines W H t q))
+
+  pub answer-pin-exactly : atPlace q ≡ true → (b : Bool) →
+      (codeIn (answered c k) ≡ cond b 0 21) ↔ (Sound t q × (onSurface W H (pinned q) ≡ true) × (someFree t ≡ true) × (bottomReaches W s (pinned q) ≡ b))
+  answer-pin-exactly a b = let x = R.pin-exactly W H s t q (each-stands c e k) a b in (λ z. x .0 (sym code-is ∙ z), λ h. code-is ∙ x .1 h)
 
   -- ---- an accepted one has a slot, and the rectangle that its answer names
 

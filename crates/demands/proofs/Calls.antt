@@ -1,6 +1,6 @@
 -- WHAT THE CONTRACTS SAY OF A CALL, by the code in its result: refused, nothing is written and the counts are 0; done, each part. Assumes nothing.
 use mathlib.Core.Path.{_≡_, refl, sym, ap, _∙_}
-use mathlib.Core.Bool.{Bool, true, false, cond}
+use mathlib.Core.Bool.{Bool, true, false, cond, _&&_}
 use mathlib.Core.List.{List}
 use Prim.Native.Nat.{ℕ, _+_, _*_, _/_, _%_, _≤_, _<_}
 use native.Mathlib.Omega.{arith}
@@ -9,12 +9,13 @@ use lib.Dec.{eqb}
 use lib.IntN.{ℤ}
 use lib.ListN.{length}
 use Rattle.rules.specs.Surface.{Standing, stands, occupied, usedSlots}
-use Rattle.rules.specs.Empties.{corners}
+use Rattle.rules.specs.Empties.{onSurface, empty, bottomReaches, corners}
 use Rattle.rules.specs.Judging.{Line, first, FirstThat, NoneApplies}
 use Rattle.meaning.specs.Numbers.{above}
 use Rattle.rules.specs.Blocks.{State, started, requests, after}
 use Rattle.rules.specs.Calls.{sizeLines, resultOf, codeOfResult, firstOfResult, secondOfResult, clearLines, clearCode, clearWith, clearedWeights, clearedTable, checkLines, checkCode, checkWith, Ran, runLines, runCode, runWith, entriesOf, roomAfter, Listed, listLines, listCode, listWith}
 use Rattle.rules.specs.Host.{LentSurface, lent, badBytes, weightsIn, bytesOf, hostClear, hostCheck, hostRun, hostList, HostClearedBy, HostRanBy, HostListedBy}
+use Rattle.rules.specs.declared.Rect.{Rect}
 use Rattle.meaning.proofs.First.{first-is, none-applies, first-parts}
 use Rattle.meaning.proofs.Codes.{GoodBlock, good, good-block, sizes-none, standing, area}
 use Rattle.meaning.proofs.Counts.{used-few, accepted-few}
@@ -133,6 +134,10 @@ module _ (W H : ℕ) (l : LentSurface) where
     check-stands e =
         let k = zero-of check-call e in
         surface (sizes-none bad W H (length t) _ k) (not-false _ (none-applies (checkLines bad W H s t) (unfold above in refl) k .1 .1 .1 .0))
+
+    -- and so the weights tell which rectangles are empty
+    pub checked-by-weights : codeOfResult r ≡ 0 → (a : Rect) → empty (occupied t) W H a ≡ (onSurface W H a && bottomReaches W s a)
+    checked-by-weights e = T.empty-by-weights W H s t (check-stands e .sound)
 
     -- it counts the used slots
     pub check-result : codeOfResult r ≡ 0 → r ≡ resultOf 0 (usedSlots t) 0

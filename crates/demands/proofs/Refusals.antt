@@ -6,31 +6,33 @@ use mathlib.Core.List.{List, [], _∷_, _++_, List·Memᴰ, List·Memᴰ·head, 
 use mathlib.Core.Option.{Option, none, some}
 use Prim.Native.Nat.{ℕ, suc, _+_, _≤_, _<_}
 use native.Mathlib.Omega.{arith}
-use borrow.Author.Tests.{ltb-true, eqb-true, eq-eqb, not-true}
+use borrow.Author.Tests.{ltb-true, le-ltb, eqb-true, eq-eqb, not-true}
 use lib.Dec.{ltb, eqb}
 use lib.IntN.{ℤ}
 use lib.ListN.{take, drop}
 use Rattle.rules.specs.Tests.{any}
 use Rattle.rules.specs.Surface.{Standing, rect, slots, idOf, kindOf, isHard, freeSlot, occupied}
-use Rattle.rules.specs.Empties.{cellsEmpty, empty, Empty}
+use Rattle.rules.specs.Empties.{onSurface, cellsEmpty, empty, Empty, bottomReaches}
 use Rattle.rules.specs.Judging.{Line, _when_, first, NoneApplies, FirstThat}
 use Rattle.meaning.specs.Numbers.{above, hasCode, differ}
-use Rattle.rules.specs.Requests.{operation, hasId, idPlaced, ruleOf, idAsked, wide, high, byte6, byte7, isPlace, isExchange, byRule, atPlace, makesNew, pinned, slotOf, someFree, position, rulePlace, anyCellTaken, soundLines, placeLines, judging, stepOf, codeOf, needsOld, isRemove}
+use Rattle.rules.specs.Requests.{operation, hasId, idPlaced, ruleOf, idAsked, wide, high, byte6, byte7, isPlace, isExchange, byRule, atPlace, makesNew, pinned, slotOf, someFree, lowestFree, position, rulePlace, anyCellTaken, soundLines, placeLines, judging, stepOf, codeOf, needsOld, isRemove}
 use Rattle.rules.specs.Blocks.{State, withStep}
 use Rattle.rules.specs.declared.Rect.{Rect}
 use Rattle.rules.specs.declared.Step.{Step}
 use Rattle.rules.specs.declared.Step.the-variants.{Refused, Done}
-use Rattle.rules.proofs.Tests.{and-left, and-right, and-both, or-neither, not-both, fails, any-at, any-yes}
+use Rattle.rules.proofs.Tests.{and-left, and-right, and-both, or-right, or-neither, not-both, fails, any-at, any-yes}
 use Rattle.meaning.proofs.Splits.{split, by-test, by-or, by-same, by-cons}
 use Rattle.meaning.proofs.Choice.{rulePlace-empty}
-use Rattle.meaning.proofs.Rectangles.{empty-is}
-use Rattle.meaning.proofs.First.{first-is, none-is, none-first, first-over, first-stop, exactly}
+use Rattle.meaning.proofs.Rectangles.{onSurface-on, on-onSurface, empty-is}
+use Rattle.meaning.proofs.Bottom.{reaches-empty}
+use Rattle.meaning.proofs.First.{first-is, none-is, none-applies, none-first, first-over, first-stop, exactly}
 use Rattle.meaning.proofs.Tables.{slot-placed, slot-has}
 use Rattle.meaning.proofs.Stands.{sameId, ids-told, standing-table}
 use Rattle.demands.specs.Sound.{Sound, SlotForIt, SoundTo16}
 use Rattle.demands.specs.Told.{HardId}
 use Rattle.demands.proofs.Hard.{hard-used, used-low}
-use Rattle.meaning.proofs.Steps.{code-is, done-refused, done-rect, came, empty-parts, at-place, Asking, asking, sizes}
+use Rattle.meaning.proofs.Operations.{pin-tested, step-unsound}
+use Rattle.meaning.proofs.Steps.{code-is, done-refused, done-rect, came, empty-parts, past-on, at-place, Asking, asking, sizes}
 use Rattle.meaning.proofs.Steps.Came.{refused, placed, removed, put, exchanged}
 
 -- ---- a refusal changes nothing
@@ -224,6 +226,55 @@ module _ (W H : ℕ) (s : List ℤ) (t q : List ℕ) (d : Standing W H s t) wher
         (λ e. let n = x .0 e in (and-left (needsOld q) (isHard t old) (n .1), to-none 16 six (drop 6 (soundLines t q)) (n .0) behind-16, hard-id (and-right (needsOld q) (isHard t old) (n .1)))),
         (λ k. x .1 (none-to 16 six (drop 6 (soundLines t q)) (unfold soundLines below in refl) (k .1), and-both (k .0) (id-hard (k .2)))),
       )
+
+-- ---- a pin and a set by the weights (order 4)
+
+neither : (n : ℕ) (d : Bool) → (n ≡ 0 → ⊥) → (n ≡ 21 → ⊥) → n ≡ cond d 0 21 → ⊥
+neither n true a b = a
+neither n false a b = b
+
+-- the three tests in their order: which of them give 0, and which 21
+pin-codes : (i : ℕ) (r : Rect) (p f b d : Bool) →
+    (codeOf (cond p (Refused 18) (cond f (cond b (Done i r) (Refused 21)) (Refused 19))) ≡ cond d 0 21) ↔ ((p ≡ false) × (f ≡ true) × (b ≡ d))
+pin-codes i r true f b d = (λ e. absurd (neither 18 d (λ z. omega arith) (λ z. omega arith) e), λ k. absurd (true≢false (k .0)))
+pin-codes i r false false b d = (λ e. absurd (neither 19 d (λ z. omega arith) (λ z. omega arith) e), λ k. absurd (false≢true (k .1)))
+pin-codes i r false true true true = (λ e. (refl, refl, refl), λ k. refl)
+pin-codes i r false true true false = (λ e. absurd (omega arith), λ k. absurd (true≢false (k .2)))
+pin-codes i r false true false true = (λ e. absurd (omega arith), λ k. absurd (false≢true (k .2)))
+pin-codes i r false true false false = (λ e. (refl, refl, refl), λ k. refl)
+
+-- b is what the test of the bottom row's weights comes to
+module _ (W H : ℕ) (s : List ℤ) (t q : List ℕ) (d : Standing W H s t) (a : atPlace q ≡ true) (b : Bool) where
+  abbrev pastEdge : Bool
+  pastEdge = ltb W (byte6 q + wide q) || ltb H (byte7 q + high q)
+
+  abbrev clear : Bool
+  clear = cellsEmpty (occupied t) (pinned q)
+
+  three : first (soundLines t q) ≡ 0 → (codeOf (stepOf W H t q) ≡ cond b 0 21) ↔ ((pastEdge ≡ false) × (someFree t ≡ true) × (clear ≡ b))
+  three e = rw (← pin-tested W H t q e (at-place q a) pastEdge (someFree t) clear refl refl refl) (pin-codes (lowestFree t) (pinned q) pastEdge (someFree t) clear b)
+
+  abbrev Told : Type 0
+  Told = Sound t q × (onSurface W H (pinned q) ≡ true) × (someFree t ≡ true) × (bottomReaches W s (pinned q) ≡ b)
+
+  to : codeOf (stepOf W H t q) ≡ cond b 0 21 → Told
+  to z =
+      by-same (first (soundLines t q)) 0
+      (λ e.
+      let k = three e .0 z in
+      let n = sizes t q (asking t q e) (or-right (byRule q) (atPlace q) a) in
+      let o = past-on W H (pinned q) (k .0) (n .0) (n .1) in
+      (none-is (soundLines t q) .0 (none-applies (soundLines t q) (unfold soundLines above in refl) e), on-onSurface W H (pinned q) o, k .1, reaches-empty W H s t (d .sound) (pinned q) o ∙ k .2))
+      (λ ne. absurd (neither (first (soundLines t q)) b ne (first-not 21 (soundLines t q) (λ z. omega arith) (unfold soundLines hasCode in refl)) (ap codeOf (step-unsound W H t q _ refl ne) ∙ z)))
+
+  from : Told → codeOf (stepOf W H t q) ≡ cond b 0 21
+  from k =
+      let o = onSurface-on W H (pinned q) (k .1) in
+      three (sound-first t q (k .0)) .1 (ap₂ _||_ (le-ltb W _ (o .columns)) (le-ltb H _ (o .lines)), k .2, sym (reaches-empty W H s t (d .sound) (pinned q) o) ∙ k .3)
+
+  -- 0 AND 21 EXACTLY WHEN THE BOTTOM ROW SAYS SO
+  pub pin-exactly : (codeOf (stepOf W H t q) ≡ cond b 0 21) ↔ Told
+  pin-exactly = (to, from)
 
 -- ---- where an accepted module stands
 

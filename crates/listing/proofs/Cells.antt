@@ -16,7 +16,7 @@ use Rattle.rules.specs.Tests.{eqZ}
 use Rattle.rules.specs.Surface.{covers, slots, rectOf, holds, occupied, holder, upwards, number, weight, cell, Standing}
 use Rattle.rules.specs.declared.Rect.{Rect}
 use Rattle.rules.proofs.Tests.{and-both, four-and, any-yes, decide, lt-or-le}
-use Rattle.meaning.proofs.Weights.{upwards-le, upwards-pos, Within, covers-within, holds-covers, holds-used, holder-low, holder-holds, number-at, weight-number, weight-occupied, weight-empty, stands-cell, stands-slots}
+use Rattle.meaning.proofs.Weights.{upwards-le, upwards-taken, upwards-pos, Within, covers-within, holds-covers, holds-used, holder-low, holder-holds, number-at, weight-number, weight-occupied, weight-empty, stands-cell, stands-slots}
 use Rattle.meaning.proofs.Stands.{sound-told, slots-told}
 use Rattle.cells.specs.Weight.{takenZ, countOf, widthOf}
 use Rattle.listing.specs.Listed.{heightOf, support, Strides}
@@ -25,12 +25,6 @@ use Rattle.listing.specs.Listed.{heightOf, support, Strides}
 pub positive : (v : ℕ) → (v ≡ 0 → ⊥) → 0 < v
 positive zero n = absurd (n refl)
 positive (suc v) n = omega arith
-
--- an occupied cell counts nothing
-pub upwards-none : (occ : ℕ → ℕ → Bool) (x y : ℕ) → occ x y ≡ true → upwards occ x y ≡ 0
-unfolding upwards
-upwards-none occ x zero e = rw e
-upwards-none occ x (suc y) e = rw e
 
 -- ---- heights and support of a row
 
@@ -44,7 +38,7 @@ module _ (occ : ℕ → ℕ → Bool) (W y x : ℕ) where
   height-past p = rw (le-ltb x W p)
 
   pub height-taken : occ x y ≡ true → heightOf occ W y x ≡ 0
-  height-taken e = ⊎-elim (λ (p : x < W). height-in p ∙ upwards-none occ x y e) (λ (p : W ≤ x). height-past p) (lt-or-le x W)
+  height-taken e = ⊎-elim (λ (p : x < W). height-in p ∙ upwards-taken occ x y e) (λ (p : W ≤ x). height-past p) (lt-or-le x W)
 
   pub height-low : heightOf occ W y x ≤ suc y
   height-low = ⊎-elim (λ (p : x < W). omega (arith, height-in p, upwards-le occ x y)) (λ (p : W ≤ x). omega (arith, height-past p)) (lt-or-le x W)

@@ -17,22 +17,17 @@ use Rattle.listing.specs.Meaning.{Cell, IsEntry}
 use Rattle.listing.proofs.Meaning.{least-le, least-met, some-held, held-some}
 use Rattle.listing.specs.Listed.{heightOf, support, entryOf, entryRect}
 use Rattle.listing.proofs.Cells.{height-in, held-by}
-use Rattle.meaning.proofs.Weights.{upwards-le, upwards-free, upwards-ge}
+use Rattle.meaning.proofs.Weights.{upwards-le, upwards-ge}
+use Rattle.meaning.proofs.Bottom.{free-reaches, on-reaches}
 
 module _ (occ : ℕ → ℕ → Bool) (W H : ℕ) where
   -- d is the bottom row
   runs : (a : Rect) (d : ℕ) → a .y + a .h ≡ suc d → Empty occ W H a → (c : ℕ) → a .x ≤ c → c < a .x + a .w → a .h ≤ upwards occ c d
-  runs a d q m c p r = upwards-ge occ c d (a .h) (omega arith) (λ e s t. m .free c e p r (omega arith) (omega arith))
+  runs a d q m = free-reaches occ a d q (m .free)
 
   built : (a : Rect) (d : ℕ) → a .y + a .h ≡ suc d → d < H → 1 ≤ a .w → 1 ≤ a .h → a .x + a .w ≤ W
       → ((c : ℕ) → a .x ≤ c → c < a .x + a .w → a .h ≤ upwards occ c d) → Empty occ W H a
-  built a d q l i j k f = record {
-    wide = i;
-    tall = j;
-    columns = k;
-    lines = omega arith;
-    free = λ c e p r s t. upwards-free occ c d e (omega arith) (omega (arith, f c p r));
-  }
+  built a d q l i j k f = on-reaches occ a d q W H (record { wide = i; tall = j; columns = k; lines = omega arith }) f
 
   -- an empty cell of the row has a height; its support, and what support tells
   support-of : (d c : ℕ) → c < W → occ c d ≡ false → support occ W H d c ≡ cond (ltb (suc d) H) (occ c (suc d)) true

@@ -15,7 +15,8 @@ use Rattle.rules.specs.declared.Rect.{Rect}
 use Rattle.rules.proofs.Tests.{and-both, four-and, not-both, or-left, or-right, fails, every-fails, any-at, any-yes, count-le, count-all, total-le}
 use Rattle.meaning.proofs.Splits.{by-test, by-less}
 use Rattle.meaning.proofs.Rectangles.{cellsEmpty-at, not-larger}
-use Rattle.meaning.proofs.Weights.{upwards-free, upwards-ge, covers-within, Within, holds-covers, holds-used, holds-both, weight-occupied, weight-empty}
+use Rattle.meaning.proofs.Bottom.{free-reaches}
+use Rattle.meaning.proofs.Weights.{upwards-free, covers-within, Within, holds-covers, holds-used, holds-both, weight-occupied, weight-empty}
 
 -- an occupied cell of a rectangle
 pub record Taken (occ : ℕ → ℕ → Bool) (a : Rect) : Type 0 where
@@ -103,9 +104,7 @@ module _ (t : List ℕ) (W H : ℕ) (a : Rect) (m : Maximal (occupied t) W H a) 
       m .isEmpty .free right bottom (omega (arith, m .isEmpty .wide)) (omega (arith, m .isEmpty .wide)) (omega (arith, m .isEmpty .tall)) (omega (arith, m .isEmpty .tall))
 
   tall-enough : a .h ≤ upwards occ right bottom
-  tall-enough =
-      upwards-ge occ right bottom (a .h) (omega (arith, m .isEmpty .tall))
-      (λ r p q. m .isEmpty .free right r (omega (arith, m .isEmpty .wide)) (omega (arith, m .isEmpty .wide)) (omega (arith, m .isEmpty .tall)) (omega (arith, m .isEmpty .tall)))
+  tall-enough = free-reaches occ a bottom (omega (arith, m .isEmpty .tall)) (m .isEmpty .free) right (omega (arith, m .isEmpty .wide)) (omega (arith, m .isEmpty .wide))
 
   -- the cell to the right is occupied, or stands on a shorter run
   smaller : a .x + a .w < W → ltZ (weight t (a .x + a .w) bottom) (weight t right bottom) ≡ true

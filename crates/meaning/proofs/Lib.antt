@@ -4,6 +4,7 @@ pub mod Rectangles
 pub mod Order
 pub mod Bound
 pub mod Weights
+pub mod Bottom
 pub mod Corners
 pub mod Choice
 pub mod Splits

@@ -1,6 +1,6 @@
 -- WHAT A REQUEST OF EACH OPERATION COMES TO: which of 11 to 23 can apply to operation n is computed from n. Assumes nothing.
 use mathlib.Core.Path.{_≡_, refl, sym, ap, _∙_, subst}
-use mathlib.Core.Bool.{true, false, not, _&&_, _||_, false≢true}
+use mathlib.Core.Bool.{Bool, true, false, not, cond, _&&_, _||_, false≢true}
 use mathlib.Core.List.{List, [], _∷_, _++_}
 use Prim.Native.Nat.{ℕ, _+_, _*_, _≤_, _<_}
 use native.Mathlib.Omega.{arith}
@@ -16,7 +16,7 @@ use Rattle.meaning.specs.Numbers.{above}
 use Rattle.rules.specs.Requests.{operation, ruleOf, idAsked, wide, high, byte6, byte7, isPlace, isRemove, isPin, isExchange, isSet, byRule, atPlace, needsOld, hasSize, zeros, pinned, idPlaced, slotOf, someFree, lowestFree, position, rulePlace, anyCellTaken, soundLines, placeLines, judging, acceptedStep, judgedTo, stepOf}
 use Rattle.rules.specs.Place.{placeStep, pinStep}
 use Rattle.rules.specs.declared.Step.{Step}
-use Rattle.rules.specs.declared.Step.the-variants.{Refused}
+use Rattle.rules.specs.declared.Step.the-variants.{Refused, Done}
 use Rattle.rules.proofs.Tests.{or-left, or-right}
 use Rattle.meaning.proofs.First.{first-stop, first-over}
 use Rattle.meaning.specs.Change.{OldModule}
@@ -100,6 +100,16 @@ module _ (W H : ℕ) (t q : List ℕ) where
   -- a set comes to what a pin does
   pub step-there-by : first (soundLines t q) ≡ 0 → AtPlace q → stepOf W H t q ≡ judgedFor 3
   step-there-by s a = by-or (isPin q) (isSet q) (a .at) (λ p. step-by s 3 (eqb-true (operation q) 3 p)) (λ p. step-by s 6 (eqb-true (operation q) 6 p))
+
+  -- the three tests of both in their order. Those behind one that refuses may come to anything
+  pub pin-tested : first (soundLines t q) ≡ 0 → AtPlace q → (p f b : Bool) →
+      (ltb W (byte6 q + wide q) || ltb H (byte7 q + high q)) ≡ p → someFree t ≡ f → cellsEmpty (occupied t) (pinned q) ≡ b →
+      cond p (Refused 18) (cond f (cond b (Done (lowestFree t) (pinned q)) (Refused 21)) (Refused 19)) ≡ stepOf W H t q
+  unfolding first
+  pin-tested s a true f b x y z = sym (step-there-by s a ∙ rw x)
+  pin-tested s a false false b x y z = sym (step-there-by s a ∙ rw (x, y))
+  pin-tested s a false true true x y z = sym (step-there-by s a ∙ rw (x, y, z))
+  pin-tested s a false true false x y z = sym (step-there-by s a ∙ rw (x, y, z))
 
   pub step-unsound : (c : ℕ) → c ≡ first (soundLines t q) → (c ≡ 0 → ⊥) → Refused c ≡ stepOf W H t q
   step-unsound c e n =

@@ -10,6 +10,7 @@ use borrow.Author.Tests.{leb-true, le-leb, eqb-true, eq-eqb, not-true, not-false
 use Rattle.rules.specs.Tests.{every, all}
 use Rattle.rules.specs.Empties.{onSurface, cellsEmpty, empty, Empty, Inside, Maximal, contains, sameRect, spanning, rects, maximal, entries}
 use Rattle.rules.specs.declared.Rect.{Rect}
+use Rattle.meaning.specs.Change.{On}
 use Rattle.meaning.proofs.Splits.{by-test, by-or}
 use Rattle.rules.proofs.Tests.{and-left, and-right, and-both, and-four, four-and, and-fails, or-left, or-right, or-neither, not-both, every-at, every-yes, keep-mem, mem-keep, all-at, all-yes, all-fails, chain-mem}
 
@@ -36,12 +37,6 @@ eq-sameRect a b e =
     four-and (eq-eqb _ _ (ap (λ (r : Rect). r .x) e)) (eq-eqb _ _ (ap (λ (r : Rect). r .y) e)) (eq-eqb _ _ (ap (λ (r : Rect). r .w) e)) (eq-eqb _ _ (ap (λ (r : Rect). r .h) e))
 
 -- ---- on the surface
-
-pub record On (W H : ℕ) (a : Rect) : Type 0 where
-  pub wide : 1 ≤ a .w
-  pub tall : 1 ≤ a .h
-  pub columns : a .x + a .w ≤ W
-  pub lines : a .y + a .h ≤ H
 
 module _ (W H : ℕ) (a : Rect) where
   pub onSurface-on : onSurface W H a ≡ true → On W H a

@@ -21,7 +21,7 @@ use Rattle.rules.specs.Tests.{between}
 use Rattle.rules.proofs.Tests.{and-left, and-right, or-left, or-right, or-neither}
 use Rattle.meaning.proofs.Splits.{split, by-same, by-or}
 use Rattle.meaning.proofs.Choice.{rule-finds, rulePlace-empty}
-use Rattle.meaning.proofs.Rectangles.{empty-is}
+use Rattle.meaning.proofs.Rectangles.{empty-on, empty-is}
 use Rattle.meaning.specs.Change.StepOrRefusal.{same, refusal}
 use Rattle.meaning.specs.Change.Change.{puts, takes, swaps}
 use Rattle.meaning.specs.Change.{StepOrRefusal, Stricter, Newcomer, OldModule, Change, On, Placing, Taking}
@@ -197,7 +197,13 @@ kind-known q = split (λ k. k ≤ 1) (isSet q) (λ e. omega arith) (λ e. omega 
 pub empty-parts : (occ : ℕ → ℕ → Bool) (W H : ℕ) (r : Rect) → Empty occ W H r → On W H r × (cellsEmpty occ r ≡ true)
 unfolding empty
 empty-parts occ W H r e =
-    (record { wide = e .wide; tall = e .tall; columns = e .columns; lines = e .lines }, and-right (onSurface W H r) (cellsEmpty occ r) (empty-is occ W H r .1 e))
+    (empty-on occ W H e, and-right (onSurface W H r) (cellsEmpty occ r) (empty-is occ W H r .1 e))
+
+-- "x + w > W or y + h > H" is not so: it lies on the surface
+pub past-on : (W H : ℕ) (r : Rect) → (ltb W (r .x + r .w) || ltb H (r .y + r .h)) ≡ false → 1 ≤ r .w → 1 ≤ r .h → On W H r
+past-on W H r e a b =
+    let n = or-neither (ltb W (r .x + r .w)) (ltb H (r .y + r .h)) e in
+    record { wide = a; tall = b; columns = ltb-false W (r .x + r .w) (n .0); lines = ltb-false H (r .y + r .h) (n .1) }
 
 -- what a remove or an exchange takes out is of kind 0
 pub module-kind : (W H : ℕ) (s : List ℤ) (t q : List ℕ) (i : ℕ) → OldModule W H s t q i → kindOf t i ≡ 0
@@ -254,12 +260,9 @@ module _ (W H : ℕ) (s : List ℤ) (t q : List ℕ) (d : Standing W H s t) (a :
     came-for z (remove e) = removed e (step-accepted W H t q z ∙ step-for W H t q 2 e) (old-there (ap (λ n. eqb n 2 || eqb n 4) e))
     came-for z (there e) =
         let n = sizes t q a (or-right (byRule q) (atPlace q) (e .at)) in
-        let b = or-neither (ltb W (byte6 q + wide q)) (ltb H (byte7 q + high q)) (then-false (atPlace q) _ (e .at) (f .on)) in
         let c : cellsEmpty (occupied t) (pinned q) ≡ true = not-false _ (then-false (atPlace q) _ (e .at) (f .clear)) in
         put e (step-accepted W H t q z ∙ step-there W H t q e)
-        (placing (or-right (isPlace q) (atPlace q) (e .at)) (pinned q)
-        (record { wide = n .0; tall = n .1; columns = ltb-false W (byte6 q + wide q) (b .0); lines = ltb-false H (byte7 q + high q) (b .1) })
-        c)
+        (placing (or-right (isPlace q) (atPlace q) (e .at)) (pinned q) (past-on W H (pinned q) (then-false (atPlace q) _ (e .at) (f .on)) (n .0) (n .1)) c)
     came-for z (exchange e) =
         let c = chosen-place (ap (λ n. eqb n 1 || eqb n 4) e) in
         exchanged (c .0) e (step-accepted W H t q z ∙ step-for W H t q 4 e ∙ ap (λ o. Done (slotOf t (idAsked q)) (orNone o)) (c .1)) (c .1)

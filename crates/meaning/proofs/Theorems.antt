@@ -1,17 +1,17 @@
 -- THE THEOREMS about the rules, each under the sentence that it answers. The proofs stand in the files that the `use` lines name. No axiom is used.
 use mathlib.Core.Path.{_≡_, refl}
-use mathlib.Core.Bool.{Bool, true, not}
+use mathlib.Core.Bool.{Bool, true, not, _&&_}
 use mathlib.Core.Logic.{_↔_}
 use mathlib.Core.List.{List, [], _∷_, _++_, List·Memᴰ}
 use mathlib.Core.Option.{some}
 use Prim.Native.Nat.{ℕ, suc, _+_, _-_, _*_, _≤_, _<_}
-use lib.Dec.{eqb}
+use lib.Dec.{leb, eqb}
 use lib.IntN.{ℤ, pos}
 use lib.ListN.{length, drop}
-use lib.Signed.{ltZ}
-use Rattle.rules.specs.Tests.{count, keep}
-use Rattle.rules.specs.Surface.{occupied, cell, stands, usedSlots}
-use Rattle.rules.specs.Empties.{empty, maximal, Empty, Maximal, entries, Earlier, Ordered, scanned, scannedRows, corner, corners}
+use lib.Signed.{leZ, ltZ}
+use Rattle.rules.specs.Tests.{every, count, keep}
+use Rattle.rules.specs.Surface.{occupied, upwards, cell, stands, usedSlots}
+use Rattle.rules.specs.Empties.{onSurface, cellsEmpty, empty, bottomReaches, maximal, Empty, Maximal, entries, Earlier, Ordered, scanned, scannedRows, corner, corners}
 use Rattle.rules.specs.Judging.{Line, first, NoneApplies, FirstThat}
 use Rattle.meaning.specs.Numbers.{above, hasCode, differ, rising, codes}
 use Rattle.rules.specs.Requests.{isSet, atPlace, position, rulePlace, soundLines, placeLines, judging, stepOf}
@@ -24,6 +24,7 @@ use Rattle.meaning.proofs.Order as O
 use Rattle.meaning.proofs.Bound as B
 use Rattle.meaning.proofs.Counts as N
 use Rattle.meaning.proofs.Weights as S
+use Rattle.meaning.proofs.Bottom as E
 use Rattle.meaning.proofs.Corners as C
 use Rattle.meaning.proofs.Choice as P
 use Rattle.meaning.specs.Rule.{ByRule}
@@ -92,6 +93,24 @@ lower-right-corner = C.lower-right-corner
 
 pub positive-when-empty : (W H : ℕ) (s : List ℤ) (t : List ℕ) → stands W H s t ≡ true → (x y : ℕ) → x < W → y < H → ltZ (pos 0) (cell W s x y) ≡ not (occupied t x y)
 positive-when-empty = S.stands-sign
+
+-- ---- "a rectangle is empty when every cell of its bottom row has a weight of at least its height" (order 4), on a standing surface, of any rectangle: both ways, cell by cell; and as an equation of
+-- tests
+
+pub empty-exactly : (W H : ℕ) (s : List ℤ) (t : List ℕ) → stands W H s t ≡ true → (r : Rect) →
+    Empty (occupied t) W H r ↔ ((onSurface W H r ≡ true) × ((x : ℕ) → r .x ≤ x → x < r .x + r .w → leZ (pos (r .h)) (cell W s x (r .y + r .h - 1)) ≡ true))
+empty-exactly = E.empty-exactly
+
+pub empty-by-weights : (W H : ℕ) (s : List ℤ) (t : List ℕ) → stands W H s t ≡ true → (r : Rect) → empty (occupied t) W H r ≡ (onSurface W H r && bottomReaches W s r)
+empty-by-weights = E.empty-by-weights
+
+-- the test looks at the bottom row and at nothing else, in any list of weights
+pub bottom-is : (W : ℕ) (s : List ℤ) (r : Rect) → (bottomReaches W s r ≡ true) ↔ ((x : ℕ) → r .x ≤ x → x < r .x + r .w → leZ (pos (r .h)) (cell W s x (r .y + r .h - 1)) ≡ true)
+bottom-is = E.bottom-is
+
+-- and over any occupied test, of any rectangle: no cell is occupied exactly when every column of the bottom row counts at least the height, upwards without a gap
+pub empty-by-columns : (occ : ℕ → ℕ → Bool) (r : Rect) → cellsEmpty occ r ≡ every (r .w) (λ i. leb (r .h) (upwards occ (r .x + i) (r .y + r .h - 1)))
+empty-by-columns = E.cells-by-columns
 
 -- ---- a rule finds a place exactly when some position has all its cells empty (code 20 is over positions and cells, the rule over entries)
 

@@ -6,41 +6,23 @@ use mathlib.Core.Option.{Option, none, some, Option·none-ne-some}
 use Prim.Native.Nat.{ℕ, _+_, _*_, _≤_}
 use native.Mathlib.Nat.{mul-le-mul-right, mul-comm}
 use native.Mathlib.Omega.{arith}
-use borrow.Author.Tests.{ltb-false}
-use lib.Dec.{ltb}
 use lib.IntN.{ℤ}
 use lib.ListN.{length}
 use Rattle.rules.specs.Surface.{Standing, rectOf, occupied}
 use Rattle.rules.specs.Empties.{cellsEmpty}
 use Rattle.rules.specs.Judging.{_when_, first}
-use Rattle.rules.specs.Requests.{operation, ruleOf, wide, high, idAsked, pinned, slotOf, someFree, lowestFree, position, rulePlace, anyCellTaken, orNone, judgedTo, stepOf}
+use Rattle.rules.specs.Requests.{operation, ruleOf, wide, high, idAsked, slotOf, someFree, lowestFree, position, rulePlace, anyCellTaken, orNone, judgedTo, stepOf}
 use Rattle.rules.specs.declared.Rect.{Rect}
 use Rattle.rules.specs.declared.Step.{Step}
 use Rattle.rules.specs.declared.Step.the-variants.{Refused, Done}
-use Rattle.rules.proofs.Tests.{or-neither, fails}
+use Rattle.rules.proofs.Tests.{fails}
 use Rattle.meaning.proofs.Choice.{rule-finds}
 use Rattle.meaning.specs.Change.{On}
-use Rattle.meaning.proofs.Steps.{AtPlace}
-use Rattle.meaning.proofs.Operations.{place-by, exchange-by, by-asks, judgedFor, step-by, step-there-by}
+use Rattle.meaning.proofs.Operations.{place-by, exchange-by, by-asks, step-by}
 use Rattle.choice.specs.Best.{codeOf, valuesOf, codeFor, Chosen}
 use Rattle.choice.specs.declared.Choice.{Choice}
 use Rattle.choice.specs.declared.Choice.the-variants.{At, Nowhere}
-use Rattle.requests.specs.Steps.{past, ruleStep, Passes}
-
--- ---- pin and set
-
-module _ (W H : ℕ) (t q : List ℕ) (s : Passes t q) (a : AtPlace q) where
-  pin-is : stepOf W H t q ≡ judgedFor W H t q 3
-  pin-is = step-there-by W H t q s a
-
-  -- the three tests in their order. Those behind one that refuses may come to anything
-  pub pin-tested : (p f b : Bool) → past W H (pinned q) ≡ p → someFree t ≡ f → cellsEmpty (occupied t) (pinned q) ≡ b →
-      cond p (Refused 18) (cond f (cond b (Done (lowestFree t) (pinned q)) (Refused 21)) (Refused 19)) ≡ stepOf W H t q
-  unfolding first
-  pin-tested true f b x y z = sym (pin-is ∙ rw x)
-  pin-tested false false b x y z = sym (pin-is ∙ rw (x, y))
-  pin-tested false true true x y z = sym (pin-is ∙ rw (x, y, z))
-  pin-tested false true false x y z = sym (pin-is ∙ rw (x, y, z))
+use Rattle.requests.specs.Steps.{ruleStep, Passes}
 
 -- ---- remove
 
@@ -90,11 +72,6 @@ module _ (W H : ℕ) (t q : List ℕ) (s : Passes t q) where
 pub on-weights : (W H : ℕ) (s : List ℤ) (t : List ℕ) (r : Rect) → Standing W H s t → On W H r → (r .x + r .w ≤ W) × ((r .y + r .h) * W ≤ length s)
 on-weights W H s t r d o = let a : (r .y + r .h) * W ≤ H * W = mul-le-mul-right W (o .lines) in
     (o .columns, omega (arith, d .long, mul-comm W H))
-
-pub past-on : (W H : ℕ) (r : Rect) → past W H r ≡ false → 1 ≤ r .w → 1 ≤ r .h → On W H r
-past-on W H r e a b =
-    let n = or-neither (ltb W (r .x + r .w)) (ltb H (r .y + r .h)) e in
-    record { wide = a; tall = b; columns = ltb-false W (r .x + r .w) (n .0); lines = ltb-false H (r .y + r .h) (n .1) }
 
 -- ---- the choice taken apart
 

@@ -66,7 +66,8 @@ fn is_past(w: usize, h: usize, r: Rect) -> bool
     h < r.y + r.h
 }
 
-// Operations 3 and 6: "takes the fields of a pin .., with a pin's refusals in the same order". 18: past the edge. 19: no free slot. 21: a cell of the place is occupied.
+// Operations 3 and 6: "takes the fields of a pin .., with a pin's refusals in the same order". 18: past the edge. 19: no free slot. 21: a cell of the place is occupied, shown by
+// the weights of its bottom row (order 4).
 fn judge_pin(w: usize, h: usize, s: &[i16], t: &[u8], q: &[u8]) -> Step
     requires { ⌜ Standing w h (now s) (now t) ⌝ }
     requires { ⌜ (length (now q) ≡ 8) × Passes (now t) (now q) × (atPlace (now q) ≡ true) ⌝ }
@@ -80,7 +81,7 @@ fn judge_pin(w: usize, h: usize, s: &[i16], t: &[u8], q: &[u8]) -> Step
     if t.len() / 8 <= i {
         return Step::Refused(19);
     }
-    if cells::none_taken(s, w, r.x, r.y, r.w, r.h) {
+    if cells::bottom_reaches(s, w, r.x, r.y, r.w, r.h) {
         return Step::Done(i, r);
     }
     Step::Refused(21)

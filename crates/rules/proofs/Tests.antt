@@ -8,8 +8,10 @@ use native.Mathlib.Nat.{le-refl, eq-or-lt-of-le, le-of-suc-le-suc, mul-add}
 use native.Mathlib.Decide.{decLt}
 use native.Mathlib.Omega.{arith}
 use lib.ListN.{length, getD}
+use lib.Dec.{leb, ltb}
 use lib.IntN.{ℤ, pos, negsuc}
-use borrow.Author.Tests.{eqb-true, eq-eqb, not-true, not-false}
+use lib.Signed.{leZ, ltZ}
+use borrow.Author.Tests.{leb-true, ltb-false, eqb-true, le-leb, le-ltb, eq-eqb, not-true, not-false}
 use Rattle.rules.specs.Tests.{every, any, total, count, leastFrom, least, eqZ, tabFrom, tab, put, keep, all, chain}
 
 -- ---- numbers
@@ -29,6 +31,11 @@ and-right false b e = absurd (false≢true e)
 
 pub and-both : {a b : Bool} → a ≡ true → b ≡ true → (a && b) ≡ true
 and-both p q = ap₂ _&&_ p q
+
+-- a second test counts only where the first holds
+pub and-same : (a b c : Bool) → (a ≡ true → b ≡ c) → (a && b) ≡ (a && c)
+and-same true b c f = f refl
+and-same false b c f = refl
 
 -- four tests in a row
 pub and-four : (a b c d : Bool) → (a && b && c && d) ≡ true → (a ≡ true) × (b ≡ true) × (c ≡ true) × (d ≡ true)
@@ -72,6 +79,11 @@ not-both b p q = absurd (true≢false (sym p ∙ q))
 pub fails : (b : Bool) → (b ≡ true → ⊥) → b ≡ false
 fails true n = absurd (n refl)
 fails false n = refl
+
+-- two tests that follow from one another are the same
+pub both-ways : (a b : Bool) → (a ≡ true → b ≡ true) → (b ≡ true → a ≡ true) → a ≡ b
+both-ways true b f g = sym (f refl)
+both-ways false b f g = sym (fails b (λ e. false≢true (g e)))
 
 -- ---- every
 
@@ -241,6 +253,11 @@ eqZ-true (negsuc a) (negsuc b) e = ap negsuc (eqb-true a b e)
 pub eqZ-same : (a : ℤ) → eqZ a a ≡ true
 eqZ-same (pos a) = eq-eqb a a refl
 eqZ-same (negsuc a) = eq-eqb a a refl
+
+-- at least h: not less than h
+pub at-least : (h : ℕ) (z : ℤ) → leZ (pos h) z ≡ not (ltZ z (pos h))
+at-least h (pos n) = both-ways (leb h n) (not (ltb n h)) (λ e. ap not (le-ltb n h (leb-true h n e))) (λ e. le-leb h n (ltb-false n h (not-true (ltb n h) e)))
+at-least h (negsuc n) = refl
 
 -- ---- tab
 

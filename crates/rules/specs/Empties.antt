@@ -1,14 +1,15 @@
 -- EMPTY RECTANGLES: maximal ones, the list of them, scanned rows and corners. Up to the list they know of the surface only
--- which cells are occupied: occ x y.
+-- which cells are occupied, occ x y; `bottomReaches` alone reads lent weights.
 use mathlib.Core.Path.{_≡_}
 use mathlib.Core.Bool.{Bool, false, not, _&&_, _||_}
 use mathlib.Core.List.{List, [], _∷_, _++_, List·Memᴰ}
 use mathlib.Core.Logic.{_⊎_}
 use Prim.Native.Nat.{ℕ, suc, _+_, _-_, _*_, _/_, _%_, _≤_, _<_}
 use lib.Dec.{leb, eqb}
-use lib.Signed.{ltZ}
+use lib.IntN.{ℤ, pos}
+use lib.Signed.{leZ, ltZ}
 use Rattle.rules.specs.Tests.{every, any, total, count, chain, keep, all}
-use Rattle.rules.specs.Surface.{rect, slots, usedSlot, rectOf, occupied, weight}
+use Rattle.rules.specs.Surface.{rect, slots, usedSlot, rectOf, occupied, weight, cell}
 use Rattle.rules.specs.declared.Rect.{Rect}
 
 -- ---- "A rectangle is empty when it lies on the surface and all its cells are empty."
@@ -30,6 +31,11 @@ pub record Empty (occ : ℕ → ℕ → Bool) (W H : ℕ) (a : Rect) : Type 0 wh
   pub columns : a .x + a .w ≤ W
   pub lines : a .y + a .h ≤ H
   pub free : (x y : ℕ) → a .x ≤ x → x < a .x + a .w → a .y ≤ y → y < a .y + a .h → occ x y ≡ false
+
+-- "a rectangle is empty when every cell of its bottom row has a weight of at least its height" (order 4): the test of that row, on lent weights. That it says the same of
+-- a rectangle that lies on a standing surface is a theorem (`empty-by-weights`, meaning/proofs/Theorems)
+unfoldable pub bottomReaches : ℕ → List ℤ → Rect → Bool
+bottomReaches W s r = every (r .w) (λ i. leZ (pos (r .h)) (cell W s (r .x + i) (r .y + r .h - 1)))
 
 -- ---- "It is maximal when no other empty rectangle contains it." (Handa and Vemuri)
 

@@ -1,13 +1,13 @@
--- Examples beside the worked figures, computed: what corners do not tell, the bound of order 1 met and not met, cases that A to I do not tell apart, the blocks of order 2 and the exchanges of order 3.
+-- Examples beside the worked figures, computed: what corners do not tell, the bound of order 1 met and not met, cases that A to I do not tell apart, the blocks of order 2, the exchanges of order 3 and the bottom row of order 4.
 use mathlib.Core.Path.{_≡_, refl}
-use mathlib.Core.Bool.{Bool, true, not, _&&_}
+use mathlib.Core.Bool.{Bool, true, false, not, _&&_}
 use mathlib.Core.List.{List, [], _∷_, _++_}
 use Prim.Native.Nat.{ℕ, _+_, _-_, _*_}
 use lib.Dec.{eqb}
 use lib.ListN.{length, replicate}
-use Rattle.rules.specs.Tests.{all}
+use Rattle.rules.specs.Tests.{keep, all}
 use Rattle.rules.specs.Surface.{rect, recordOf, occupied, fresh}
-use Rattle.rules.specs.Empties.{entries, scannedRows, corner, corners}
+use Rattle.rules.specs.Empties.{empty, bottomReaches, rects, entries, scannedRows, corner, corners}
 use Rattle.rules.specs.Figures.{clear, check, list, Case, caseHolds, eight, free, e, o}
 use Rattle.rules.specs.declared.Rect.{Rect}
 
@@ -311,3 +311,18 @@ free-has-no-kind = (refl, refl)
 pub fallen-refused : (check 2 1 (e 1 ∷ e 2 ∷ []) free .code ≡ 6) × (list 2 1 (e 1 ∷ e 2 ∷ []) free (7 ∷ []) .room ≡ 7 ∷ [])
 unfolding caseHolds
 fallen-refused = (refl, refl)
+
+-- ---- "a rectangle is empty when every cell of its bottom row has a weight of at least its height" (order 4): 3×4 with a module at (1, 1) and a block at (2, 3)
+
+abbrev weighed : List ℕ
+weighed = recordOf 1 0 (rect 1 1 1 1) 0 ++ recordOf 2 0 (rect 2 3 1 1) 1
+
+-- OF ITS 60 RECTANGLES 28 ARE EMPTY, THOSE THAT THE TEST OF THE BOTTOM ROW PICKS
+pub picked-by-weights : (keep (bottomReaches 3 (fresh 3 4 weighed)) (rects 3 4) ≡ keep (empty (occupied weighed) 3 4) (rects 3 4)) × (length (rects 3 4) ≡ 60) × (length (keep (empty (occupied weighed) 3 4) (rects 3 4)) ≡ 28)
+unfolding caseHolds
+picked-by-weights = (refl, refl, refl)
+
+-- it looks at the bottom row alone: weights that do not stand, an occupied cell above a 2; and it asks that the rectangle lies on the surface: 2×2, empty, past whose right edge the next row's weights stand
+pub bottom-row-alone : (bottomReaches 1 (o 1 ∷ e 2 ∷ []) (rect 0 0 1 2) ≡ true) × (bottomReaches 2 (fresh 2 2 free) (rect 1 0 2 1) ≡ true) × (empty (occupied free) 2 2 (rect 1 0 2 1) ≡ false)
+unfolding caseHolds
+bottom-row-alone = (refl, refl, refl)

@@ -64,7 +64,7 @@ sameItems f (a ∷ l) (b ∷ m) = sameItems f l m && f a b
 
 -- whoever unfolds `caseHolds` unfolds all the rules: the statements below are computed
 unfoldable pub caseHolds : Case → Bool
-unfolding Tests.every Tests.any Tests.total Tests.leastFrom Tests.tabFrom Tests.keep Tests.all Tests.chain Surface.covers Surface.freeSlot Surface.holds Surface.occupied Surface.holder Surface.upwards Surface.number Surface.remaining Surface.weight Surface.fresh Surface.soundSlot Surface.slotsSound Surface.idsDiffer Surface.modulesApart Surface.weightsRight Surface.stands Surface.usedSlots Empties.onSurface Empties.cellsEmpty Empties.empty Empties.rects Empties.maximal Empties.entries Empties.entryRecords Empties.scanned Empties.scannedRows Empties.corner Empties.corners Judging.first Requests.zeros Requests.idPlaced Requests.slotOf Requests.someFree Requests.lowestFree Requests.position Requests.cost Requests.cheapest Requests.chosen Requests.rulePlace Requests.soundLines Requests.placeLines Requests.acceptedStep Requests.stepOf Blocks.nextBy Blocks.afterBy Calls.clearLines Calls.clearCode Calls.clearedWeights Calls.clearWith Calls.checkLines Calls.checkCode Calls.checkWith Calls.runLines Calls.runCode Calls.runWith Calls.listLines Calls.listCode Calls.listWith Calls.badSize Calls.badTable Calls.badBlock
+unfolding Tests.every Tests.any Tests.total Tests.leastFrom Tests.tabFrom Tests.keep Tests.all Tests.chain Surface.covers Surface.freeSlot Surface.holds Surface.occupied Surface.holder Surface.upwards Surface.number Surface.remaining Surface.weight Surface.fresh Surface.soundSlot Surface.slotsSound Surface.idsDiffer Surface.modulesApart Surface.weightsRight Surface.stands Surface.usedSlots Empties.onSurface Empties.cellsEmpty Empties.empty Empties.bottomReaches Empties.rects Empties.maximal Empties.entries Empties.entryRecords Empties.scanned Empties.scannedRows Empties.corner Empties.corners Judging.first Requests.zeros Requests.idPlaced Requests.slotOf Requests.someFree Requests.lowestFree Requests.position Requests.cost Requests.cheapest Requests.chosen Requests.rulePlace Requests.soundLines Requests.placeLines Requests.acceptedStep Requests.stepOf Blocks.nextBy Blocks.afterBy Calls.clearLines Calls.clearCode Calls.clearedWeights Calls.clearWith Calls.checkLines Calls.checkCode Calls.checkWith Calls.runLines Calls.runCode Calls.runWith Calls.listLines Calls.listCode Calls.listWith Calls.badSize Calls.badTable Calls.badBlock
 caseHolds c =
     let blank = clear (c .w) (c .h) (replicate (c .w * c .h) (pos 9)) (replicate (8 * c .slots) 9) in
     let ran = run (c .w) (c .h) (blank .weights) (blank .table) (c .block) (replicate (length (c .block)) 9) in

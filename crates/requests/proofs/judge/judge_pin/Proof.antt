@@ -1,17 +1,18 @@
 -- `requests::judge::judge_pin` meets its contract. Assumes nothing.
 use mathlib.Core.Path.{_≡_, refl, sym, ap, _∙_, subst, ap₂}
 use mathlib.Core.Bool.{true, false}
+use native.Mathlib.Omega.{arith}
 use Rattle.rules.specs.Surface.{occupied}
 use Rattle.rules.specs.Empties.{cellsEmpty}
 use Rattle.rules.specs.Requests.{byRule, pinned}
 use Rattle.rules.specs.declared.Step.the-variants.{Done}
 use Rattle.meaning.specs.Change.{On}
-use Rattle.modules.proofs.Place.{untaken-empty}
+use Rattle.meaning.proofs.Bottom.{reaches-empty}
 use Rattle.requests.specs.Steps.{past}
-use Rattle.meaning.proofs.Operations.{none-free, one-free, size-some}
-use Rattle.meaning.proofs.Steps.{at-place}
+use Rattle.meaning.proofs.Operations.{none-free, one-free, size-some, pin-tested}
+use Rattle.meaning.proofs.Steps.{past-on, at-place}
 use Rattle.rules.proofs.Tests.{or-right}
-use Rattle.requests.proofs.StepLaws.{past-on, on-weights, pin-tested}
+use Rattle.requests.proofs.StepLaws.{on-weights}
 use borrow.Author.Needs.{needs}
 use Rattle.requests.proofs.judge.judge_pin.Statement.{statement}
 use Rattle.requests.proofs.judge.judge_pin.Tie as tie
@@ -33,12 +34,12 @@ on c =
     past-on _ _ _ (told (c .before) ∙ c .if1 .left) (z .0) (z .1)
 
 -- the test of its cells
-tested : (c : tie.After-none-taken) → cellsEmpty (occupied (start (c .before .before .before .before) .args .t .now)) (pinned (start (c .before .before .before .before) .args .q .now)) ≡ c .none-taken .result
+tested : (c : tie.After-bottom-reaches) → cellsEmpty (occupied (start (c .before .before .before .before) .args .t .now)) (pinned (start (c .before .before .before .before) .args .q .now)) ≡ c .bottom-reaches .result
 tested c =
     let k = c .before .before .before .before in
     let a = start k .args in
-    sym (c .none-taken .ensures
-    ∙ untaken-empty (a .w) (a .h) (a .s .now) (a .t .now) (start k .pre .0) _ (subst (On (a .w) (a .h)) (sym (is k)) (on (c .before .before .before)))
+    sym (c .bottom-reaches .ensures
+    ∙ reaches-empty (a .w) (a .h) (a .s .now) (a .t .now) (start k .pre .0 .sound) (c .before .before .before .before .before .pinned .result) (subst (On (a .w) (a .h)) (sym (is k)) (on (c .before .before .before)))
     ∙ ap (cellsEmpty (occupied (a .t .now))) (is k))
 
 is-past-requires : tie.Need-is-past-requires
@@ -52,10 +53,12 @@ returns-2 c = let k = c .before .before in
     let p = start (k .before) .pre in
     pin-tested _ _ _ _ (p .1 .1) (at-place _ (p .1 .2)) false false _ (told (k .before) ∙ k .if1 .left) (none-free _ _ (c .before .lowest-free .ensures) (c .if2 .taken)) refl
 
-none-taken-requires : tie.Need-none-taken-requires
-none-taken-requires c κs = let k = c .before .before in
+bottom-reaches-requires : tie.Need-bottom-reaches-requires
+bottom-reaches-requires c κs = let k = c .before .before in
     let a = start (k .before) .args in
-    on-weights _ _ _ _ _ (start (k .before) .pre .0) (subst (On (a .w) (a .h)) (sym (is (k .before))) (on k))
+    let d = start (k .before) .pre .0 in
+    let o = subst (On (a .w) (a .h)) (sym (is (k .before))) (on k) in
+    (on-weights _ _ _ _ _ d o, (o .wide, o .tall, omega (arith, o .lines, d .sides .highest)))
 
 returns-3 : tie.Need-returns-3
 returns-3 c = let f = c .before .before .before in
@@ -79,6 +82,6 @@ judge-pin-spec =
     returns
     (λ c κs. search needs)
     returns-2
-    none-taken-requires
+    bottom-reaches-requires
     returns-3
     returns-4)
