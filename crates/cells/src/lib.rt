@@ -1,4 +1,6 @@
 // One weight: signed 16-bit, negative for an occupied cell, a positive count for an empty one.
+#![tactic(auto)]
+
 ghost use Rattle.std.specs.Prelude.{◌≡◌, ◌+◌, ◌*◌, ◌≤◌, ◌<◌, length, get_or, set, pos, neg_ℤ};
 ghost use Rattle.std.specs.Int.Signed.{lt_z};
 ghost use Rattle.rules.specs.Tests.{eq_z};

@@ -1,4 +1,6 @@
 // The choice by rule (document 002): the list's rows are walked once, and the best entry so far is carried along. No list of entries is built.
+#![tactic(auto)]
+
 ghost use Rattle.std.specs.Prelude.{◌≡◌, true, false, map, ℕ, ◌+◌, ◌*◌, ◌≤◌, ◌<◌, length};
 ghost use Rattle.rules.specs.Surface.{Standing, occupied};
 ghost use Rattle.rules.specs.Requests.{fits, cost as cost_of, rule_place};

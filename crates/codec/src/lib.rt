@@ -1,4 +1,6 @@
 // Weights as the host lends them: two bytes each, low byte first, two's complement.
+#![tactic(auto)]
+
 ghost use Rattle.std.specs.Prelude.{◌≡◌, ◌+◌, ◌*◌, ◌/◌, ◌%◌, ◌<◌, length, set};
 ghost use Rattle.cells.specs.Weight.{same_weights};
 ghost use Rattle.rules.specs.Host.{signed16, bits16, weight_at, weights_of, bytes_of};

@@ -1,5 +1,7 @@
 // freelist: "It reads request records from standard input and keeps a table of 256 slots." What the records mean is in the crate `stream`; here they are
 // read, in pieces of any size, and the answers and the list printed.
+#![tactic(auto)]
+
 ghost use Rattle.std.specs.Prelude.{◌≡◌, ◌+◌, ◌*◌, ◌/◌, ◌≤◌, ◌<◌, length, take};
 ghost use Rattle.stream.specs.Records.{kept, first_kept};
 ghost use Rattle.stream.specs.Promise.{Ready, ServedAll};

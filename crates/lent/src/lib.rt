@@ -1,5 +1,7 @@
 // The four calls on numbers and lent bytes, a file for each. The weights that a call works on are worked out afresh from the table, and each
 // weight of the lent bytes is held against its own. They are encoded only where something was written.
+#![tactic(auto)]
+
 pub mod examine; // "The surface is examined": 6, or the weights and how many slots are used
 pub mod check;
 pub mod clear;

@@ -1,1 +1,2 @@
 // What the rules mean: theorems about the definitions of `rules`. No code.
+#![tactic(auto)]

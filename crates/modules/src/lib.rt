@@ -1,5 +1,7 @@
 // Modules put in and taken out: the weights of their columns and one table record. For each column of the module one walk down from its top row to
 // the next occupied cell below it, or the bottom edge; no other cell is touched.
+#![tactic(auto)]
+
 ghost use Rattle.std.specs.Prelude.{◌≡◌, ℕ, ◌+◌, ◌*◌, ◌≤◌, ◌<◌};
 ghost use Rattle.rules.specs.Surface.{rect, number, record_of, free_record, with_record, fresh};
 ghost use Rattle.modules.specs.Walk.{Sized, Shallow, Filled, Recounted, run_above, ColumnAdded, ColumnRemoved, Added, Removed};

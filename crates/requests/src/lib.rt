@@ -1,4 +1,6 @@
 // Requests: judged, served, and run in turn.
+#![tactic(auto)]
+
 pub mod fields; // the bytes of a request
 pub mod sound; // codes 11 to 17 and 23
 pub mod judge; // codes 18 to 22, and what a request comes to

@@ -356,8 +356,8 @@ module _ {A : Type 0} (f : ℕ → List A) where
   pub mem_chain : {a : A} (n : ℕ) → Memᴰ a (chain n f) → (k : ℕ) × (k < n) × Memᴰ a (f k)
   unfolding chain
   mem_chain zero m = absurd (Memᴰ.not-nil m)
-  mem_chain (suc n) m =
+  mem_chain {a} (suc n) m =
       ⊎_elim
-      (λ l. let w = mem_chain n l in (w.0, omega (arith, w.1), w.2))
+      (λ (l : Memᴰ a (chain n f)). let w = mem_chain n l in let h : w.0 < suc n = omega (arith, w.1) in (w.0, h, w.2))
       (λ r. (n, omega arith, r))
       (Memᴰ.append_cases (chain n f) m)

@@ -1,4 +1,5 @@
 // The types that the definitions in specs/ share with the code of the layers above. No code here.
+#![tactic(auto)]
 
 // "A rectangle is (x, y, w, h), its top left cell and its size, at least 1×1."
 #[derive(Drop)]

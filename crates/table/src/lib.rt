@@ -1,4 +1,6 @@
 // The table's records, read, looked for and written: a slot is eight bytes, the id low byte first, then x, y, w, h, the kind and a spare byte.
+#![tactic(auto)]
+
 ghost use Rattle.std.specs.Prelude.{◌≡◌, [], ◌∷◌, ◌+◌, ◌*◌, ◌≤◌, ◌<◌, length};
 ghost use Rattle.rules.specs.Surface.{byte, slots, id_of, rect_of, kind_of, free_slot, record_of, with_record};
 ghost use Rattle.rules.specs.Requests.{has_id, slot_of, lowest_free};

@@ -7,21 +7,18 @@ use mir.Syntax.{w16}
 use mir.Val.{SFits, to_z}
 use mir.ValLaws.{to_z_pos, to_z-of_z}
 use Rattle.cells.proofs.Laws.{neg_is}
-use Rattle.cells.proofs.occupied_by.Statement.{statement}
-use Rattle.cells.proofs.occupied_by.Tie as tie
+use Rattle.cells.proofs.occupied_by.Goals as goal
+use Rattle.cells.proofs.occupied_by.Goals.{Start}
 
 neg-nat : (n : ℕ) → n ≤ 32767 → SFits w16 (neg_ℤ (pos n))
 neg-nat zero h = record { sfits = omega arith }
 neg-nat (suc n) h = record { sfits = omega arith }
 
-diff : (c : tie.Start) → pos 0 -ℤ to_z w16 c.args.n ≡ neg_ℤ (pos c.args.n)
+diff : (c : Start) → pos 0 -ℤ to_z w16 c.args.n ≡ neg_ℤ (pos c.args.n)
 diff c = rw (to_z_pos w16 c.args.n (omega arith)) (neg_is (pos c.args.n))
 
-sub-result : tie.Need-overflow-sub-result
-sub-result c = subst (SFits w16) (sym (diff c)) (neg-nat c.args.n c.requires)
+pub overflow_sub-result : goal.overflow_sub-result
+overflow_sub-result c = subst (SFits w16) (sym (diff c)) (neg-nat c.args.n c.requires)
 
-returns : tie.Need-returns
-returns c = to_z-of_z w16 _ (sub-result c) ∙ diff c
-
-pub occupied-by-spec : {M : Type 1} → statement M
-occupied-by-spec = tie.close (tie.spec (λ c. search rules) sub-result returns)
+pub returns : goal.returns
+returns c = to_z-of_z w16 _ (overflow_sub-result c) ∙ diff c

@@ -4,11 +4,7 @@ use mathlib.Core.Path.{◌≡◌}
 use mir.Syntax.{w16}
 use Rattle.cells.specs.Weight.{taken_z}
 use Rattle.cells.proofs.Laws.{back, taken_test}
-use Rattle.cells.proofs.is_taken.Statement.{statement}
-use Rattle.cells.proofs.is_taken.Tie as tie
+use Rattle.cells.proofs.is_taken.Goals as goal
 
-returns : tie.Need-returns
+pub returns : goal.returns
 returns c = back w16 (λ z. lt_z z (pos 0) ≡ taken_z c.args.v) c.ranges.v (taken_test c.args.v)
-
-pub is-taken-spec : {M : Type 1} → statement M
-is-taken-spec = tie.close (tie.spec returns)
