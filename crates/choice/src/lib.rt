@@ -13,14 +13,14 @@ ghost use Rattle.choice.specs.declared.Best.TheVariants.{Nothing};
 use rules::Rect;
 
 // Where a module may stand by rule.
-#[derive(Drop)]
+#[derive(Clone, Copy)]
 pub enum Choice {
     At(Rect),
     Nowhere,
 }
 
 // The best entry with room so far: its cost, and where the module stands in it.
-#[derive(Drop)]
+#[derive(Clone, Copy)]
 pub enum Best {
     Found(usize, Rect),
     Nothing,

@@ -8,7 +8,7 @@ use super::heights::{height_at, rises, run_at, settle, stays};
 use super::stairs::{cut, emit, push};
 
 // How many entries and how many corners.
-#[derive(Drop)]
+#[derive(Clone, Copy)]
 pub struct Counts {
     pub entries: usize,
     pub corners: usize,

@@ -6,7 +6,7 @@ ghost use Rattle.requests.specs.Steps.{Turn, ServedAt};
 
 use super::serve::serve;
 
-#[derive(Drop)]
+#[derive(Clone, Copy)]
 pub struct Reader<'a> {
     block: &'a [u8],
     at: usize,

@@ -2,7 +2,7 @@
 #![tactic(auto)]
 
 // "A rectangle is (x, y, w, h), its top left cell and its size, at least 1×1."
-#[derive(Drop)]
+#[derive(Clone, Copy)]
 pub struct Rect {
     pub x: usize,
     pub y: usize,
@@ -12,7 +12,7 @@ pub struct Rect {
 
 // What a request comes to: refused, with its code; or done, with the slot whose record it changes and the rectangle that its answer names: of the
 // module or block that stands there now (place, pin, set, exchange) or of the module that is gone (remove).
-#[derive(Drop)]
+#[derive(Clone, Copy)]
 pub enum Step {
     Refused(u8),
     Done(usize, Rect),

@@ -7,7 +7,7 @@ ghost use Rattle.stream.specs.Promise.{Ready, ListedBy};
 use listing::list::list_standing;
 
 // How many entries and corners the list has.
-#[derive(Drop)]
+#[derive(Clone, Copy)]
 pub struct Listed {
     pub entries: usize,
     pub corners: usize,

@@ -12,7 +12,7 @@ use surface::clear::{clear_weights, free_slots};
 use surface::sizes::size_code;
 
 // W and H, 0 while there is no surface.
-#[derive(Drop)]
+#[derive(Clone, Copy)]
 pub struct Size {
     pub columns: usize,
     pub rows: usize,

@@ -9,7 +9,7 @@ use super::rows::count_rows;
 use super::slots::gather;
 
 // What "the surface is examined" comes to: it stands, with so many slots used, or it does not.
-#[derive(Drop)]
+#[derive(Clone, Copy)]
 pub enum Examined {
     Stands(usize),
     Falls,
