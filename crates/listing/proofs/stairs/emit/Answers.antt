@@ -1,0 +1,65 @@
+-- `listing::stairs::emit` meets its contract. What is written and what is still to leave are together what had to leave. Assumes nothing.
+use mathlib.Core.Path.{refl}
+use mathlib.Core.Logic.{⊎_elim}
+use mathlib.Core.List.{◌++◌}
+use Prim.Native.Nat.{◌-◌}
+use native.Mathlib.Omega.{arith}
+use Rattle.listing.specs.Row.{rows, leaving, span, stair_at}
+use Rattle.listing.proofs.Turns.{Emitted, emit_end, emit_low, emit_unheld, emit_put, emit_at}
+use Rattle.listing.proofs.stairs.emit.Goals as goal
+
+pub loop-i-init : goal.loop-i-init
+loop-i-init c = record {
+  upto = omega arith;
+  long = (refl, refl, refl);
+  room = omega arith;
+  same = refl;
+}
+
+pub loop-i-preserved : goal.loop-i-preserved
+loop-i-preserved c =
+    let in-loop = c.before.before.before in
+    let h = in-loop.before.loop-i.invariant in
+    let p = in-loop.loop-i-test.true in
+    ⊎_elim
+    (λ w. emit_at w.2 w.3 w.4 w.5 (emit_put h p w.0.taken w.1.taken))
+    (⊎_elim
+    (λ w. emit_at w.2 w.3 w.4 w.5 (emit_unheld h p w.1.left))
+    (λ w. emit_at w.1 w.2 w.3 w.4 (emit_low h p w.0.left)))
+    c.if-v-h.branch
+
+pub shape_of-lefts : goal.shape_of-lefts
+shape_of-lefts c = c.loop-i.invariant.long.0
+
+pub shape_of-rights : goal.shape_of-rights
+shape_of-rights c = c.loop-i.invariant.long.1
+
+pub shape_of-heights : goal.shape_of-heights
+shape_of-heights c = c.loop-i.invariant.long.2
+
+pub returns : goal.returns
+returns c = emit_end c.loop-i.invariant c.loop-i-test.false
+
+pub bounds-sl-i : goal.bounds-sl-i
+bounds-sl-i c = omega arith
+
+pub bounds-sh-i : goal.bounds-sh-i
+bounds-sh-i c = omega arith
+
+pub bounds-lefts-o : goal.bounds-lefts-o
+bounds-lefts-o c = omega arith
+
+pub bounds-rights-o : goal.bounds-rights-o
+bounds-rights-o c = omega arith
+
+pub bounds-heights-o : goal.bounds-heights-o
+bounds-heights-o c = omega arith
+
+pub overflow_add-o : goal.overflow_add-o
+overflow_add-o c = omega arith
+
+pub overflow_add-i : goal.overflow_add-i
+overflow_add-i c = omega arith
+
+pub loop-i-smaller : goal.loop-i-smaller
+loop-i-smaller c = omega arith

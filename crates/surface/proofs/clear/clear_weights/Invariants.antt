@@ -1,0 +1,16 @@
+use mathlib.Core.Path.{◌≡◌, sym, ap, ◌∙◌}
+use Prim.Native.Nat.{◌+◌, ◌*◌, ◌≤◌, ◌-◌}
+use native.Mathlib.Nat.{add-mul, mul_comm}
+use native.Mathlib.Omega.{arith}
+use lib.IntN.{pos}
+use Rattle.rules.specs.Calls.{cleared_weights}
+use Rattle.cells.proofs.Upto.{Upto, upto_none, upto_all}
+use Rattle.surface.proofs.RowLaws.{row_end}
+use Rattle.surface.proofs.ClearLaws.{cleared_long, cleared_more}
+use Rattle.surface.proofs.clear.clear_weights.Given as goal
+
+abbrev pub invariant-loop-y : goal.invariant-loop-y
+invariant-loop-y l = (l.y ≤ l.h) × (l.at ≡ l.y * l.w) × Upto (pos 0) (cleared_weights l.w l.h) l.s l.at
+
+abbrev pub decreases-loop-y : goal.decreases-loop-y
+decreases-loop-y l = l.h - l.y
