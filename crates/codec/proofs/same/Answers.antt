@@ -17,7 +17,7 @@ use Rattle.meaning.proofs.Bytes.{weights_of_at}
 use Rattle.codec.proofs.Laws.{handed}
 use Rattle.codec.proofs.same.Invariants.{item}
 use Rattle.codec.proofs.same.Goals as goal
-use Rattle.codec.proofs.same.Goals.{After-is_same}
+use Rattle.codec.proofs.same.Goals.{After-is_same, then-not-is_same, else-not-is_same}
 
 pub loop-k-init : goal.loop-k-init
 unfolding every
@@ -42,10 +42,10 @@ loop-k-preserved c =
     let a = c.args in
     let p = item a.b.now a.s.now in (
       omega arith,
-      ⊎_elim
-          (λ w. w.1 ∙ sym (every_miss l.k p (sym (told c.before) ∙ not-true _ w.0.taken)))
-          (λ w. w.1 ∙ l.invariant.1 ∙ sym (every_hit l.k p (sym (told c.before) ∙ not-false _ w.0.left)))
-          c.if-not-is_same.branch,
+      elim c.if-not-is_same.branch [
+        then-not-is_same w ↦ w.ok-is ∙ sym (every_miss l.k p (sym (told (goal.at.loop-k-preserved c).After-is_same) ∙ w.if-not-is_same.true))
+        | else-not-is_same w ↦ w.ok-is ∙ l.invariant.1 ∙ sym (every_hit l.k p (sym (told (goal.at.loop-k-preserved c).After-is_same) ∙ w.if-not-is_same.false))
+      ],
     )
 
 pub returns : goal.returns

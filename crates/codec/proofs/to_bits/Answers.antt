@@ -27,10 +27,10 @@ d-is : (c : Then-v-lt0) → to_z w16 (of_z w16 (negsuc 0 -ℤ to_z w16 (of_z w16
 d-is c = to_z-of_z w16 _ (overflow_sub-result c)
 
 pub overflow_cast-result : goal.overflow_cast-result
-overflow_cast-result c = subst (λ z. T (non_neg z) × Fits w16 (nat_abs z)) (sym (d-is c)) ((is-neg c).sign, (is-neg c).ranges)
+overflow_cast-result c = subst (λ z. T (non_neg z) × Fits w16 (nat_abs z)) (sym (d-is c)) ((is-neg c).sign, (is-neg c).fits)
 
 pub overflow_sub-result-then-v-lt0 : goal.overflow_sub-result-then-v-lt0
-overflow_sub-result-then-v-lt0 c = subst (λ z. nat_abs z ≤ 65535) (sym (d-is c)) (omega (arith, (is-neg c).ranges))
+overflow_sub-result-then-v-lt0 c = subst (λ z. nat_abs z ≤ 65535) (sym (d-is c)) (omega (arith, (is-neg c).fits))
 
 not-below : (c : Else-v-lt0) → (T (non_neg c.args.v) × Fits w16 (nat_abs c.args.v)) × (nat_abs c.args.v ≡ bits16 c.args.v)
 not-below c = not_neg c.args.v c.ranges.v (subst (λ z. lt_z z (pos 0) ≡ false) (v-is c.before) c.if-v-lt0.false)

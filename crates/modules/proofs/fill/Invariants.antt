@@ -10,9 +10,9 @@ use Rattle.modules.proofs.Grid.{on}
 use Rattle.modules.proofs.Walks.{fill_none, fill_more}
 use Rattle.modules.proofs.fill.Given as goal
 
--- the promise itself, as far as the loop has come. A signed local holds its bits
+-- the promise itself, as far as the loop has come
 abbrev pub invariant-loop-i : goal.invariant-loop-i
-invariant-loop-i l = (l.i ≤ l.n) × Filled l.w l.c l.y l.i (to_z w16 l.v) l.initial.s l.s
+invariant-loop-i l = (l.i ≤ l.n) × Filled l.w l.c l.y l.i l.v l.initial.s l.s
 
 abbrev pub decreases-loop-i : goal.decreases-loop-i
 decreases-loop-i l = l.n - l.i

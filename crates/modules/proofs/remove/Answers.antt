@@ -12,7 +12,7 @@ pub loop-c-init : goal.loop-c-init
 loop-c-init c = (omega arith, walk_none _ _ _ _ _ _ _ _)
 
 pub remove_column-requires : goal.remove_column-requires
-remove_column-requires c = let a = c.args in let l = c.loop-c in record { sized = search rules; c_lt_w = (omega arith, omega arith, above_same a.w a.s.now l.s l.c a.y (λ r. l.invariant.1.rest l.c r (omega arith) (inr (omega arith))) (c.requires.shallow.0 l.c (omega arith))) }
+remove_column-requires c = let a = c.args in let l = c.loop-c in record { sized = search rules; c_lt_w = (omega arith, omega arith, above_same a.w a.s.now l.s l.c a.y (λ r. l.invariant.1.rest l.c r (omega arith) (inr (omega arith))) (c.requires.shallow l.c (omega arith))) }
 
 pub loop-c-preserved : goal.loop-c-preserved
 loop-c-preserved c = let a = c.args in let l = c.loop-c in

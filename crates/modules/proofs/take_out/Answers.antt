@@ -14,13 +14,12 @@ rect_at-m-requires c = slot_fits c.requires.standing c.requires.slot
 pub remove-requires : goal.remove-requires
 remove-requires c =
     let a = c.args in
-    let e = c.rect_at-m.ensures in (
-      search rules,
-      (
-        subst (λ m. Shallow a.w m.y a.s.now) (sym e) (taken_shallow a.w a.h a.s.now a.t.now a.i c.requires),
-        subst (On a.w a.h) (sym e) (taken_sound a.w a.h a.s.now a.t.now a.i c.requires).place,
-      ),
-    )
+    let e = c.rect_at-m.ensures in
+    record {
+      sized = search rules;
+      shallow = subst (λ m. Shallow a.w m.y a.s.now) (sym e) (taken_shallow a.w a.h a.s.now a.t.now a.i c.requires);
+      on = subst (On a.w a.h) (sym e) (taken_sound a.w a.h a.s.now a.t.now a.i c.requires).place;
+    }
 
 pub put_record-requires : goal.put_record-requires
 put_record-requires c = record { i_in_bounds = slot_fits c.requires.standing c.requires.slot; bytes = record { x = omega arith; y = omega arith; w = omega arith; h = omega arith } }

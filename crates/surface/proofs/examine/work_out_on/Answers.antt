@@ -3,7 +3,6 @@ use mathlib.Core.Bool.{false}
 use Prim.Native.Nat.{◌≤◌}
 use native.Mathlib.Omega.{arith}
 use borrow.Author.Rules.{rules}
-use borrow.Author.Tests.{not-true, not-false}
 use lib.ListN.{length}
 use Rattle.rules.specs.Surface.{slots, used_slot, used_slots}
 use Rattle.rules.proofs.Tests.{not_both, count_le}
@@ -28,25 +27,25 @@ take_all-requires c =
     let g = c.gather-n in
     let d = right (goal.at.take_all-requires c).Start in
     let n : g.result ≤ 256 = omega (arith, g.ensures.many, count_le (slots a.t.now) (used_slot a.t.now), d.few) in
-    (d.sides.wide, d.sides.widest, g.ensures, omega (arith, g.auto.1.0, c.requires.2), omega (arith, c.requires.3), take_none a.w a.h a.t.now a.ids.now a.m.now c.requires.1)
+    (d.sides.wide, d.sides.widest, g.ensures, omega (arith, g.auto.used, c.requires.2), omega (arith, c.requires.3), take_none a.w a.h a.t.now a.ids.now a.m.now c.requires.1)
 
 pub returns-then-not-take_all : goal.returns-then-not-take_all
 returns-then-not-take_all c =
     let a = c.args in
-    let e = sym c.take_all.ensures.is ∙ not-true _ c.if-not-take_all.true in
+    let e = sym c.take_all.ensures.is ∙ c.if-not-take_all.true in
     record { answer = falls_is (table_stands a.w a.h a.t.now) a.t.now e; weights = λ q. not_both _ q e }
 
 pub count_rows-requires : goal.count_rows-requires
 count_rows-requires c =
     let d = right (goal.at.count_rows-requires c).Start in
-    (d.sides.high, d.sides.highest, d.sides.widest, (c.take_all.ensures.marked (not-false _ c.if-not-take_all.false)).long)
+    (d.sides.high, d.sides.highest, d.sides.widest, (c.take_all.ensures.marked (c.if-not-take_all.false)).long)
 
 pub returns : goal.returns
 unfolding used_slots
 returns c =
     let a = c.args in
     let k = c.take_all.ensures in
-    let ok = not-false _ c.if-not-take_all.false in
+    let ok = c.if-not-take_all.false in
     record {
       answer = stands_is (table_stands a.w a.h a.t.now) a.t.now _ (sym k.is ∙ ok) c.gather-n.ensures.many;
       weights = λ q. counted_fresh a.w a.h _ _ a.t.now (k.marked ok) (right (goal.at.returns c).Start).sides.wide c.count_rows.ensures;

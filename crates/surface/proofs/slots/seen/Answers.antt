@@ -1,5 +1,4 @@
 use mathlib.Core.Path.{◌≡◌, refl, sym, ap, ◌∙◌}
-use mathlib.Core.Logic.{⊎_elim}
 use Prim.Native.Nat.{◌≤◌, ◌-◌}
 use native.Mathlib.Omega.{arith}
 use lib.Dec.{eqb}
@@ -8,6 +7,7 @@ use borrow.Author.Tests.{eq-eqb, ne_eqb}
 use Rattle.rules.specs.Tests.{any}
 use Rattle.surface.proofs.SlotLaws.{any_hit, any_miss}
 use Rattle.surface.proofs.slots.seen.Goals as goal
+use Rattle.surface.proofs.slots.seen.Goals.{then-ids-k, else-ids-k}
 
 pub loop-k-init : goal.loop-k-init
 unfolding any
@@ -16,10 +16,10 @@ loop-k-init c = (omega arith, refl)
 pub loop-k-preserved : goal.loop-k-preserved
 loop-k-preserved c = let l = c.loop-k in let a = c.args in (
   omega arith,
-  ⊎_elim
-      (λ w. w.1 ∙ sym (any_hit l.k (λ j. eqb (get_or a.ids.now j 0) a.id) (eq-eqb _ _ w.0.taken)))
-      (λ w. w.1 ∙ l.invariant.1 ∙ sym (any_miss l.k (λ j. eqb (get_or a.ids.now j 0) a.id) (ne_eqb _ _ w.0.left)))
-      c.if-ids-k.branch,
+  elim c.if-ids-k.branch [
+    then-ids-k w ↦ w.found-is ∙ sym (any_hit l.k (λ j. eqb (get_or a.ids.now j 0) a.id) (eq-eqb _ _ w.if-ids-k.true))
+    | else-ids-k w ↦ w.found-is ∙ l.invariant.1 ∙ sym (any_miss l.k (λ j. eqb (get_or a.ids.now j 0) a.id) (ne_eqb _ _ w.if-ids-k.false))
+  ],
 )
 
 pub returns : goal.returns
