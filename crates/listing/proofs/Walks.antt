@@ -345,4 +345,4 @@ go_skip bare {x = x} i z (suc zero) one inside over = go_taken bare i (omega ari
 go_skip {f} {b} bare {w} {sl₀} {sh₀} {ls₀} {rs₀} {es₀} {sl} {sh} {ls} {rs} {es} {n} {m} {k} {e} {u} {lo} {x} i z (suc (suc j)) one inside over =
     let q : x + 1 + suc j ≡ x + suc (suc j) = omega arith in
     subst (λ a. Going f b w sl₀ sh₀ ls₀ rs₀ es₀ sl sh ls rs es n m k e u a a) q
-    (go_skip bare (go_taken bare i (omega arith) z (over x (le_refl x) (omega arith))) z (suc j) (omega arith) (omega arith) (λ c p r. over c (omega arith) (omega arith)))
+    (go_skip bare {lo = x + 1} {x = x + 1} (go_taken bare i (omega arith) z (over x (le_refl x) (omega arith))) z (suc j) (omega arith) (omega arith) (λ c p r. over c (omega arith) (omega arith)))

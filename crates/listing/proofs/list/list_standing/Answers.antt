@@ -16,7 +16,7 @@ short-requires c = record { standing = c.requires; scans = c.scanned_rows.ensure
 
 pub returns-then-short : goal.returns-then-short
 returns-then-short c =
-    let a = (c.before).args in
+    let a = c.args in
     too_short a.w a.h a.table.now a.room.now (sym c.short.ensures ∙ c.if-short.true)
 
 pub write_list-c-requires : goal.write_list-c-requires
@@ -25,12 +25,12 @@ write_list-c-requires c = record { standing = c.requires; scans = c.scanned_rows
 -- both counts are small
 low : (c : After-write_list-c) → (c.write_list-c.result.entries ≤ 64 * 64) × (c.write_list-c.result.corners ≤ 64 * 64)
 low c =
-    let b = counts_low (start (c.before.before.before)).requires in
+    let b = counts_low c.requires in
     (omega (arith, c.write_list-c.ensures.entries_value.0, b.0), omega (arith, c.write_list-c.ensures.entries_value.1, b.1))
 
 pub returns : goal.returns
 returns c =
-    let a = (c.before.before).args in
+    let a = c.args in
     let r = all_listed a.w a.h a.table.now a.room.now _ _ c.write_list-c.ensures.entries_value.0 c.write_list-c.ensures.entries_value.1 (sym c.short.ensures ∙ c.if-short.false) in
     (r.0, c.write_list-c.ensures.room_after ∙ r.1)
 

@@ -70,7 +70,7 @@ overflow_add-turned c =
     omega (arith, (row_corners _ _ _ _ _ (looked (goal.at.overflow_add-turned c).After-row-c) c.row-c.ensures.corners_value).1, c.loop-y.invariant.2.few, c.loop-y-test.true, s.widest, s.highest)
 
 -- the row's records stand behind those before
-written_row : (c : After-write_row) → let c = (c.before).before in let a = c.args in
+written_row : (c : After-write_row) → let a = c.args in
     c.write_row.new.room ≡ written (8 * c.loop-y.found) (records_in (occupied a.table.now) a.w a.h c.loop-y.y) c.loop-y.room
 written_row c =
     let a = c.args in
@@ -98,10 +98,10 @@ pub loop-y-smaller-then-scans-y-eq0 : goal.loop-y-smaller-then-scans-y-eq0
 loop-y-smaller-then-scans-y-eq0 c = omega (arith, c.loop-y-test.true)
 
 pub overflow_add-y-else-scans-y-eq0 : goal.overflow_add-y-else-scans-y-eq0
-overflow_add-y-else-scans-y-eq0 c = let t = turn (c.before) in omega (arith, t.loop-y-test.true, t.before.requires.standing.sides.highest)
+overflow_add-y-else-scans-y-eq0 c = omega (arith, c.loop-y-test.true, c.requires.standing.sides.highest)
 
 pub loop-y-smaller : goal.loop-y-smaller
-loop-y-smaller c = omega (arith, (turn (c.before)).loop-y-test.true)
+loop-y-smaller c = omega (arith, c.loop-y-test.true)
 
 pub shape_of-room : goal.shape_of-room
 shape_of-room c = wrote_long _ _ _ _ c.requires.h_in_bounds _ _ _ c.loop-y.invariant.1

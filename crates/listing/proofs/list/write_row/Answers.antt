@@ -13,22 +13,22 @@ kept : (c : At-loop-i) → length c.loop-i.room ≡ length c.args.room.now
 kept c = record_long _ _ _ _ _ _ _ c.requires.n_in_bounds_2 _ _ _ c.loop-i.invariant
 
 room : (c : In-loop-i) → c.loop-i.o + 8 ≤ length c.loop-i.room
-room c = omega (arith, c.loop-i-test.true, c.loop-i.invariant.next, c.requires.n_in_bounds_2, kept c.before.before)
+room c = omega (arith, c.loop-i-test.true, c.loop-i.invariant.next, c.requires.n_in_bounds_2, record_long _ _ _ _ _ _ _ c.requires.n_in_bounds_2 _ _ _ c.loop-i.invariant)
 
 pub loop-i-init : goal.loop-i-init
 loop-i-init c = record_none _ _ _ _ _ _ _ c.requires.n_in_bounds_2
 
 pub overflow_add-end : goal.overflow_add-end
-overflow_add-end c = omega (arith, room c)
+overflow_add-end c = omega (arith, room (goal.at.overflow_add-end c).In-loop-i)
 
 pub slice_bounds-put_entry-count : goal.slice_bounds-put_entry-count
-slice_bounds-put_entry-count c = omega (arith, room c)
+slice_bounds-put_entry-count c = omega (arith, room (goal.at.slice_bounds-put_entry-count c).In-loop-i)
 
 pub slice_bounds-put_entry-start : goal.slice_bounds-put_entry-start
-slice_bounds-put_entry-start c = omega (arith, room c)
+slice_bounds-put_entry-start c = omega (arith, room (goal.at.slice_bounds-put_entry-start c).In-loop-i)
 
 pub slice_bounds-put_entry-end : goal.slice_bounds-put_entry-end
-slice_bounds-put_entry-end c = omega (arith, room c)
+slice_bounds-put_entry-end c = omega (arith, room (goal.at.slice_bounds-put_entry-end c).In-loop-i)
 
 pub bounds-lefts-i : goal.bounds-lefts-i
 bounds-lefts-i c = omega (arith, c.loop-i-test.true, c.requires.n_in_bounds)

@@ -14,6 +14,5 @@ pub returns : goal.returns
 returns c =
     let a = c.args in
     let called = c.walk in
-    let left = called.new.1.1.1.1.1.1.1 in
-    let wrote = called.ensures.0 in
-    let long = written_length _ left.0 left.1.0 left.1.1.0 _ wrote in record { entries_after = wrote; entries_value = (long, omega (arith, long, row_few (occupied a.table.now) a.w a.h a.y c.requires.y_lt_h)); corners_value = called.ensures.1 }
+    let wrote = called.ensures.entries_after in
+    let long = written_length _ called.new.lefts called.new.rights called.new.heights _ wrote in record { entries_after = wrote; entries_value = (long, omega (arith, long, row_few (occupied a.table.now) a.w a.h a.y c.requires.y_lt_h)); corners_value = called.ensures.corners_value }

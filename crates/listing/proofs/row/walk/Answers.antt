@@ -226,8 +226,8 @@ pub returns : goal.returns
 unfolding entries_in
 returns c =
     let out = c.emit-all in
-    let left = out.new.1.1.1.1.1.1.1 in
-    let long = out.auto.1.1.1.1.1.1.1 in
-    go_end (bare (goal.at.returns c).Start) c.loop-x.invariant c.loop-x-test.false (height_past _ _ _ _ (le_refl _)) _ _ out.result left.0 left.1.0 left.1.1.0
-    c.left_of-last.ensures c.settle-e-2.ensures
-    long.0 long.1.0 long.1.1.0 out.ensures _ c.past.ensures
+    let g =
+    go_end (bare (goal.at.returns c).Start) c.loop-x.invariant c.loop-x-test.false (height_past _ _ _ _ (le_refl _)) _ _ out.result out.new.lefts out.new.rights out.new.heights
+        c.left_of-last.ensures c.settle-e-2.ensures
+        out.auto.lefts out.auto.rights out.auto.heights out.ensures _ c.past.ensures
+    in record { entries_after = g.0; corners_value = g.1 }

@@ -12,7 +12,7 @@ use Rattle.listing.proofs.scanned.scanned_rows.Goals.{At-loop-i}
 pub loop-i-init : goal.loop-i-init
 loop-i-init c =
     let u = c.unmark in
-    mark_start _ _ u.new.0 _ refl (omega (arith, u.auto.0, c.requires.le_h.1)) (λ y h. u.ensures y (omega (arith, u.auto.0)))
+    mark_start _ _ u.new.scans _ refl (omega (arith, u.auto.scans, c.requires.le_h.1)) (λ y h. u.ensures y (omega (arith, u.auto.scans)))
 
 -- unmark kept the length
 kept : (c : At-loop-i) → length c.unmark.new.scans ≡ length c.args.scans.now

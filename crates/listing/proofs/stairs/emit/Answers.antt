@@ -7,6 +7,7 @@ use native.Mathlib.Omega.{arith}
 use Rattle.listing.specs.Row.{rows, leaving, span, stair_at}
 use Rattle.listing.proofs.Turns.{Emitted, emit_end, emit_low, emit_unheld, emit_put, emit_at}
 use Rattle.listing.proofs.stairs.emit.Goals as goal
+use Rattle.listing.proofs.stairs.emit.Goals.{then-v-h+then-l-e, then-v-h+else-l-e, else-v-h}
 
 pub loop-i-init : goal.loop-i-init
 loop-i-init c = record {
@@ -18,15 +19,13 @@ loop-i-init c = record {
 
 pub loop-i-preserved : goal.loop-i-preserved
 loop-i-preserved c =
-    let in-loop = c.before.before.before in
-    let h = in-loop.before.loop-i.invariant in
-    let p = in-loop.loop-i-test.true in
-    ⊎_elim
-    (λ w. emit_at w.2 w.3 w.4 w.5 (emit_put h p w.0.taken w.1.taken))
-    (⊎_elim
-    (λ w. emit_at w.2 w.3 w.4 w.5 (emit_unheld h p w.1.left))
-    (λ w. emit_at w.1 w.2 w.3 w.4 (emit_low h p w.0.left)))
-    c.if-v-h.branch
+    let h = c.loop-i.invariant in
+    let p = c.loop-i-test.true in
+    elim c.if-v-h.branch [
+      then-v-h+then-l-e w ↦ emit_at w.lefts-is w.rights-is w.heights-is w.o-is (emit_put h p w.if-v-h.true w.if-l-e.true)
+      | then-v-h+else-l-e w ↦ emit_at w.lefts-is w.rights-is w.heights-is w.o-is (emit_unheld h p w.if-l-e.false)
+      | else-v-h w ↦ emit_at w.lefts-is w.rights-is w.heights-is w.o-is (emit_low h p w.if-v-h.false)
+    ]
 
 pub shape_of-lefts : goal.shape_of-lefts
 shape_of-lefts c = c.loop-i.invariant.long.0
