@@ -6,6 +6,3 @@ pub mod Lines
 pub mod StepLaws
 pub mod Accepted
 pub mod Turns
-pub mod Reading
-pub mod Lent
-pub mod Gone

@@ -1,0 +1,11 @@
+-- `requests::sound::id_missing` meets its contract. Assumes nothing.
+use mathlib.Core.Path.{refl, sym, ◌∙◌}
+use Rattle.requests.proofs.Lines.{and_no, and_is}
+use borrow.Author.Rules.{rules}
+use Rattle.requests.proofs.sound.id_missing.Goals as goal
+
+pub returns-then-either : goal.returns-then-either
+returns-then-either c = sym (and_is _ _ _ (sym c.either.ensures ∙ c.if-either.true) refl)
+
+pub returns : goal.returns
+returns c = sym (and_no _ _ (sym c.either.ensures ∙ c.if-either.false))
