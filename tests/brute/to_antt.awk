@@ -2,13 +2,9 @@
 # definitions of `rules` must pass, all under one statement.
 BEGIN {
     print "-- Made by tests/brute/to_antt.awk from what the brute force answered; not written by hand."
-    print "use mathlib.Core.Path.{_≡_, refl}"
-    print "use mathlib.Core.Bool.{Bool, true, _&&_}"
-    print "use mathlib.Core.List.{List, [], _∷_}"
-    print "use Prim.Native.Nat.{ℕ}"
-    print "use lib.IntN.{pos, negsuc}"
-    print "use Rattle·rules.specs.Tests.{all}"
-    print "use Rattle·compared·specs.specs.Compare.{lent, cleared, checked, ran, listed}"
+    print "use Rattle.std.specs.Prelude.{◌≡◌, refl, Bool, true, ◌&&◌, List, [], ◌∷◌, ℕ, pos, negsuc}"
+    print "use Rattle.rules.specs.Tests.{all}"
+    print "use Rattle.compared.specs.Compare.{lent, cleared, checked, ran, listed}"
     print ""
     print "abbrev pub cases : List Bool"
     print "cases ="
@@ -40,7 +36,7 @@ END {
     print "    []"
     print ""
     print "-- THE DEFINITIONS AGREE WITH THE BRUTE FORCE ON " count " CASES"
-    print "pub cases-agree : all (λ b. b) cases ≡ true"
+    print "pub cases_agree : all (λ b. b) cases ≡ true"
     print "unfolding cleared checked ran listed"
-    print "cases-agree = refl"
+    print "cases_agree = refl"
 }
