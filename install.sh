@@ -3,13 +3,14 @@
 set -eu
 cd "$(dirname "$0")"
 prefix=${1:?usage: install.sh PREFIX}
-command -v rt >/dev/null 2>&1 || { echo "install.sh: the Rattle toolchain's rt is not on the path"; exit 1; }
+. tests/need.sh
+need_rt
 
 mkdir -p build
-rt staticlib calls >build/archive 2>&1 || { cat build/archive; exit 1; }
+build_library build/library.log
 mkdir -p "$prefix/lib/pkgconfig" "$prefix/include"
 prefix=$(cd "$prefix" && pwd)
-cp target/staticlib/libcalls.a "$prefix/lib/libfreelist.a"
+cp "$library" "$prefix/lib/libfreelist.a"
 cp include/freelist.h "$prefix/include/freelist.h"
 cat >"$prefix/lib/pkgconfig/freelist.pc" <<EOF
 prefix=$prefix

@@ -5,8 +5,8 @@ set -eu
 cd "$(dirname "$0")"
 . tests/need.sh
 need_emulator
-command -v rt >/dev/null 2>&1 || { echo "run-example.sh: the Rattle toolchain's rt is not on the path"; exit 1; }
+need_rt
 
 mkdir -p build
-rt check freelist >build/example 2>&1 || { cat build/example; exit 1; }
-$start target/bin/freelist <crates/freelist/stdin
+build_program build/example.log
+$start "$executable" <crates/freelist/stdin

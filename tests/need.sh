@@ -32,3 +32,24 @@ need_x86() {
     need x86_64-linux-gnu-g++ g++-x86-64-linux-gnu
     cc=x86_64-linux-gnu-gcc cxx=x86_64-linux-gnu-g++ nm=x86_64-linux-gnu-nm size=x86_64-linux-gnu-size
 }
+
+# need_rt: the Rattle toolchain, which nothing here installs.
+need_rt() {
+    command -v rt >/dev/null 2>&1 || { echo "$0: the Rattle toolchain's rt is not on the path"; exit 1; }
+}
+
+# What the toolchain makes, for the scripts that run at the top of the repository.
+library=crates/calls/out/libcalls.a
+executable=crates/freelist/out/freelist
+
+# build_library LOG: proves the exported calls, and what they stand on, and makes the archive.
+build_library() {
+    (cd crates/calls && rt lib) >"$1" 2>&1 || { cat "$1"; exit 1; }
+}
+
+# build_program LOG: proves the program, and what it stands on, and makes it. rt also runs it, here on no input; on a machine that needs an emulator that
+# run alone fails.
+build_program() {
+    rm -f "$executable"
+    (cd crates/freelist && rt run </dev/null) >"$1" 2>&1 || { [ -n "$start" ] && [ -x "$executable" ]; } || { cat "$1"; exit 1; }
+}
