@@ -1,5 +1,5 @@
 -- Made by tests/brute/to_antt.awk from what the brute force answered; not written by hand.
-use Rattle.std.specs.Prelude.{◌≡◌, refl, Bool, true, ◌&&◌, List, [], ◌∷◌, ℕ, pos, negsuc}
+use Rattle.std.specs.Prelude.{◌≡◌, refl, Bool, true, List, [], ◌∷◌, pos, negsuc}
 use Rattle.rules.specs.Tests.{all}
 use Rattle.compared.specs.Compare.{lent, cleared, checked, ran, listed}
 

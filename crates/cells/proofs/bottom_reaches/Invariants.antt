@@ -1,19 +1,10 @@
-use mathlib.Core.Path.{◌≡◌, sym, ap, ap₂, ◌∙◌, subst}
-use mathlib.Core.Bool.{Bool, true, not}
+use mathlib.Core.Path.{◌≡◌}
+use mathlib.Core.Bool.{Bool, true}
 use mathlib.Core.List.{List}
-use Prim.Native.Nat.{ℕ, ◌+◌, ◌*◌, ◌≤◌, ◌<◌, ◌-◌}
-use native.Mathlib.Omega.{arith}
-use borrow.Author.Count.{below_none, below_more}
-use borrow.Author.Rules.{rules}
+use Prim.Native.Nat.{ℕ, ◌+◌, ◌≤◌, ◌<◌, ◌-◌}
 use lib.IntN.{ℤ, pos}
-use lib.ListN.{length, get_or}
-use lib.Signed.{le_z, lt_z}
-use mir.Syntax.{w16}
-use mir.ValLaws.{to_z-of_z}
+use lib.Signed.{le_z}
 use Rattle.rules.specs.Surface.{cell}
-use Rattle.rules.specs.Empties.{bottom_reaches}
-use Rattle.rules.proofs.Tests.{every_yes, every_no, at_least}
-use Rattle.cells.proofs.Laws.{cell_in}
 use Rattle.cells.proofs.bottom_reaches.Given as goal
 
 -- the weight in column k of the rectangle, in its bottom row, reaches its height

@@ -1,13 +1,8 @@
-use mathlib.Core.Path.{◌≡◌, refl, sym, ap, ◌∙◌}
-use mathlib.Core.Bool.{true, not}
-use Prim.Native.Nat.{ℕ, ◌+◌, ◌*◌, ◌≤◌, ◌<◌, ◌-◌}
-use native.Mathlib.Omega.{arith}
-use borrow.Author.Count.{below_none, below_more}
-use lib.ListN.{length}
+use mathlib.Core.Path.{◌≡◌}
+use mathlib.Core.Bool.{true}
+use Prim.Native.Nat.{ℕ, ◌+◌, ◌≤◌, ◌<◌, ◌-◌}
 use Rattle.rules.specs.Tests.{every}
-use Rattle.rules.proofs.Tests.{every_yes}
-use Rattle.cells.specs.Weight.{untaken}
-use Rattle.cells.proofs.Laws.{cell_in, open_at, open_row, taken_one, every_hit}
+use Rattle.cells.proofs.Laws.{open_at, open_row}
 use Rattle.cells.proofs.none_taken.Given as goal
 
 abbrev pub invariant-loop-i : goal.invariant-loop-i

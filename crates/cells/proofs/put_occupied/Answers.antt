@@ -2,7 +2,6 @@ use mathlib.Core.Path.{◌∙◌, ap}
 use lib.ListN.{set}
 use mir.Syntax.{w16}
 use mir.ValLaws.{to_z-of_z}
-use borrow.Author.Rules.{rules}
 use Rattle.cells.proofs.put_occupied.Goals as goal
 
 pub returns : goal.returns

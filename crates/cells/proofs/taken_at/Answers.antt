@@ -4,7 +4,6 @@ use mathlib.Core.Path.{◌∙◌, ap}
 use mir.Syntax.{w16}
 use mir.ValLaws.{to_z-of_z}
 use Rattle.cells.specs.Weight.{taken_z}
-use borrow.Author.Rules.{rules}
 use Rattle.cells.proofs.taken_at.Goals as goal
 
 pub returns : goal.returns

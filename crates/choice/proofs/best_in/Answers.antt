@@ -1,7 +1,6 @@
 -- `choice::best_in` meets its contract. Assumes nothing.
 use mathlib.Core.Path.{◌≡◌, refl, sym, ap₂, ◌∙◌, subst}
 use mathlib.Core.List.{map}
-use Prim.Native.Nat.{◌-◌, ◌≤◌}
 use native.Mathlib.Omega.{arith}
 use Rattle.listing.specs.Row.{entry_at, rows, span}
 use Rattle.listing.specs.Listed.{entry_rect}

@@ -1,12 +1,9 @@
-use mathlib.Core.Path.{◌≡◌, refl, sym, ap₂, ◌∙◌, subst}
+use mathlib.Core.Path.{◌≡◌}
 use mathlib.Core.List.{map}
 use Prim.Native.Nat.{◌-◌, ◌≤◌}
-use native.Mathlib.Omega.{arith}
-use Rattle.listing.specs.Row.{entry_at, rows, span}
+use Rattle.listing.specs.Row.{rows}
 use Rattle.listing.specs.Listed.{entry_rect}
-use Rattle.choice.specs.Best.{Entered, better, best_of}
-use Rattle.choice.proofs.Costs.{drawn_entered}
-use Rattle.choice.proofs.Walk.{best_more}
+use Rattle.choice.specs.Best.{best_of}
 use Rattle.choice.proofs.best_in.Given as goal
 
 abbrev pub invariant-loop-i : goal.invariant-loop-i

@@ -5,7 +5,6 @@ use Rattle.listing.specs.Row.{rows}
 use Rattle.listing.proofs.ListLaws.{held_drawn}
 use Rattle.choice.proofs.Walk.{row_best}
 use Rattle.choice.proofs.Room.{best_unfit}
-use borrow.Author.Rules.{rules}
 use Rattle.choice.proofs.best_row.Goals as goal
 
 pub returns-then-not-row_has_room : goal.returns-then-not-row_has_room

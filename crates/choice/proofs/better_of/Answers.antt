@@ -5,7 +5,6 @@ use native.Mathlib.Omega.{arith}
 use borrow.Author.Tests.{lt-ltb, le-ltb}
 use Rattle.rules.specs.Requests.{fits}
 use Rattle.choice.proofs.Costs.{fits_high, better_by, better_room}
-use borrow.Author.Rules.{rules}
 use Rattle.choice.proofs.better_of.Goals as goal
 use Rattle.choice.proofs.better_of.Goals.{Else-not-has_room}
 

@@ -1,12 +1,12 @@
 -- `choice::choose` meets its contract. Assumes nothing.
 use mathlib.Core.Path.{◌≡◌, refl, sym, ap, ◌∙◌}
 use mathlib.Core.List.{[]}
-use Prim.Native.Nat.{◌+◌, ◌-◌, ◌≤◌}
+use Prim.Native.Nat.{◌+◌}
 use native.Mathlib.Omega.{arith}
 use Rattle.rules.specs.Surface.{occupied}
 use Rattle.rules.specs.Requests.{rule_place}
 use Rattle.listing.specs.Listed.{listed, rects_in}
-use Rattle.listing.proofs.Spans.{Rooms, rooms_kept, rooms_wide}
+use Rattle.listing.proofs.Spans.{rooms_kept, rooms_wide}
 use Rattle.listing.proofs.ListLaws.{unscanned_rects}
 use Rattle.listing.proofs.ScanLaws.{scan_no}
 use Rattle.choice.specs.Best.{best_of, unbeaten, place_in, Chosen}
@@ -14,7 +14,6 @@ use Rattle.choice.specs.declared.Best.{Best}
 use Rattle.choice.specs.declared.Choice.{Choice}
 use Rattle.choice.specs.declared.Best.TheVariants.{Nothing}
 use Rattle.choice.proofs.Walk.{rows_none, rows_more, rows_unbeaten, chosen_by, walk_chosen}
-use borrow.Author.Rules.{rules}
 use Rattle.choice.proofs.choose.Goals as goal
 use Rattle.choice.proofs.choose.Goals.{In-loop-y, Start}
 

@@ -1,19 +1,10 @@
-use mathlib.Core.Path.{◌≡◌, refl, sym, ap, ◌∙◌}
-use mathlib.Core.List.{[]}
-use Prim.Native.Nat.{◌+◌, ◌-◌, ◌≤◌}
-use native.Mathlib.Omega.{arith}
+use mathlib.Core.Path.{◌≡◌}
+use Prim.Native.Nat.{◌-◌, ◌≤◌}
 use Rattle.rules.specs.Surface.{occupied}
-use Rattle.rules.specs.Requests.{rule_place}
-use Rattle.listing.specs.Listed.{listed, rects_in}
-use Rattle.listing.proofs.Spans.{Rooms, rooms_kept, rooms_wide}
-use Rattle.listing.proofs.ListLaws.{unscanned_rects}
-use Rattle.listing.proofs.ScanLaws.{scan_no}
-use Rattle.choice.specs.Best.{best_of, unbeaten, place_in, Chosen}
-use Rattle.choice.specs.declared.Best.{Best}
-use Rattle.choice.specs.declared.Choice.{Choice}
+use Rattle.listing.specs.Listed.{listed}
+use Rattle.listing.proofs.Spans.{Rooms}
+use Rattle.choice.specs.Best.{best_of}
 use Rattle.choice.specs.declared.Best.TheVariants.{Nothing}
-use Rattle.choice.proofs.Walk.{rows_none, rows_more, rows_unbeaten, chosen_by, walk_chosen}
-use borrow.Author.Rules.{rules}
 use Rattle.choice.proofs.choose.Given as goal
 
 abbrev pub invariant-loop-y : goal.invariant-loop-y

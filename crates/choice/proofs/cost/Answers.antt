@@ -3,7 +3,6 @@ use mathlib.Core.Path.{sym, ap}
 use native.Mathlib.Omega.{arith}
 use Rattle.rules.specs.Requests.{cost}
 use Rattle.choice.proofs.Costs.{Small, small, cost_low}
-use borrow.Author.Rules.{rules}
 use Rattle.choice.proofs.cost.Goals as goal
 use Rattle.choice.proofs.cost.Goals.{Start}
 

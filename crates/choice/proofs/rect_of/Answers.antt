@@ -1,6 +1,5 @@
 -- `choice::rect_of` meets its contract. Assumes nothing.
 use mathlib.Core.Path.{refl}
-use borrow.Author.Rules.{rules}
 use native.Mathlib.Omega.{arith}
 use Rattle.meaning.proofs.Rectangles.{rect_eq}
 use Rattle.choice.proofs.rect_of.Goals as goal

@@ -1,12 +1,10 @@
 use mathlib.Core.Path.{sym, ◌∙◌}
-use Prim.Native.Nat.{◌*◌, ◌≤◌, ◌-◌}
 use native.Mathlib.Omega.{arith}
-use lib.ListN.{length, get_or}
+use lib.ListN.{get_or}
 use lib.IntN.{pos}
 use mir.Syntax.{w16}
 use mir.ValLaws.{to_z-of_z}
-use Rattle.rules.specs.Host.{bytes_of}
-use Rattle.cells.proofs.Upto.{Upto, upto_none, upto_all}
+use Rattle.cells.proofs.Upto.{upto_none, upto_all}
 use Rattle.meaning.proofs.Bytes.{length-bytes_of}
 use Rattle.codec.proofs.Laws.{stored_more}
 use Rattle.codec.proofs.encode.Goals as goal

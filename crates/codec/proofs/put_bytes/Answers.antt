@@ -2,7 +2,6 @@ use mathlib.Core.Path.{◌≡◌, ◌∙◌, ap}
 use mir.Syntax.{w16}
 use mir.ValLaws.{to_z-of_z}
 use Rattle.rules.specs.Host.{bits16}
-use borrow.Author.Rules.{rules}
 use Rattle.codec.proofs.put_bytes.Goals as goal
 
 pub returns : goal.returns

@@ -1,16 +1,10 @@
 use mathlib.Core.Path.{◌≡◌, refl, sym, ap, ap₂, ◌∙◌}
-use mathlib.Core.Bool.{Bool}
-use mathlib.Core.Logic.{⊎_elim}
-use mathlib.Core.List.{List}
-use Prim.Native.Nat.{ℕ, ◌≤◌, ◌-◌}
 use native.Mathlib.Omega.{arith}
-use borrow.Author.Tests.{not-true, not-false}
-use lib.IntN.{ℤ, pos}
+use lib.IntN.{pos}
 use lib.ListN.{length, get_or}
 use mir.Syntax.{w16}
 use mir.ValLaws.{to_z-of_z}
 use Rattle.rules.specs.Tests.{every, eq_z}
-use Rattle.rules.specs.Host.{weights_of}
 use Rattle.cells.specs.Weight.{same_weights}
 use Rattle.cells.proofs.Laws.{every_hit, every_miss}
 use Rattle.meaning.proofs.Bytes.{weights_of_at}
@@ -43,7 +37,7 @@ loop-k-preserved c =
     let p = item a.b.now a.s.now in (
       omega arith,
       elim c.if-not-is_same.branch [
-        then-not-is_same w ↦ w.ok-is ∙ sym (every_miss l.k p (sym (told (goal.at.loop-k-preserved c).After-is_same) ∙ w.if-not-is_same.true))
+        | then-not-is_same w ↦ w.ok-is ∙ sym (every_miss l.k p (sym (told (goal.at.loop-k-preserved c).After-is_same) ∙ w.if-not-is_same.true))
         | else-not-is_same w ↦ w.ok-is ∙ l.invariant.1 ∙ sym (every_hit l.k p (sym (told (goal.at.loop-k-preserved c).After-is_same) ∙ w.if-not-is_same.false))
       ],
     )

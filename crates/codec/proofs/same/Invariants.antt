@@ -1,20 +1,11 @@
-use mathlib.Core.Path.{◌≡◌, refl, sym, ap, ap₂, ◌∙◌}
+use mathlib.Core.Path.{◌≡◌}
 use mathlib.Core.Bool.{Bool}
-use mathlib.Core.Logic.{⊎_elim}
 use mathlib.Core.List.{List}
 use Prim.Native.Nat.{ℕ, ◌≤◌, ◌-◌}
-use native.Mathlib.Omega.{arith}
-use borrow.Author.Tests.{not-true, not-false}
 use lib.IntN.{ℤ, pos}
 use lib.ListN.{length, get_or}
-use mir.Syntax.{w16}
-use mir.ValLaws.{to_z-of_z}
 use Rattle.rules.specs.Tests.{every, eq_z}
 use Rattle.rules.specs.Host.{weights_of}
-use Rattle.cells.specs.Weight.{same_weights}
-use Rattle.cells.proofs.Laws.{every_hit, every_miss}
-use Rattle.meaning.proofs.Bytes.{weights_of_at}
-use Rattle.codec.proofs.Laws.{handed}
 use Rattle.codec.proofs.same.Given as goal
 
 abbrev pub item : List ℕ → List ℤ → ℕ → Bool

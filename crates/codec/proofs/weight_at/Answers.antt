@@ -1,6 +1,5 @@
 use Rattle.codec.proofs.Laws.{handed}
 use mathlib.Core.Path.{◌∙◌}
-use borrow.Author.Rules.{rules}
 use Rattle.codec.proofs.weight_at.Goals as goal
 
 pub returns : goal.returns

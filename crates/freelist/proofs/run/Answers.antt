@@ -1,5 +1,5 @@
 -- `freelist::run` meets its contract. Assumes nothing.
-use mathlib.Core.Path.{◌≡◌, sym, ◌∙◌}
+use mathlib.Core.Path.{◌∙◌}
 use native.Mathlib.Omega.{arith}
 use Rattle.stream.proofs.Input.{so_far_none, so_far_more}
 use Rattle.freelist.proofs.Laws.{first_ready}

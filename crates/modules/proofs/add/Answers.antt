@@ -1,10 +1,7 @@
 -- `modules::add` meets its contract. The invariant says which columns are done, by the law `add_all` at the end all of the module. Assumes nothing.
-use mathlib.Core.Path.{◌≡◌}
-use Prim.Native.Nat.{ℕ, ◌+◌, ◌-◌}
 use native.Mathlib.Omega.{arith}
-use borrow.Author.Rules.{rules}
 use Rattle.rules.specs.Surface.{rect, number}
-use Rattle.modules.proofs.Plane.{Adding, walk_none, walk_more, add_all}
+use Rattle.modules.proofs.Plane.{walk_none, walk_more, add_all}
 use Rattle.modules.proofs.add.Invariants.{given}
 use Rattle.modules.proofs.add.Goals as goal
 

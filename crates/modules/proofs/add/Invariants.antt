@@ -1,9 +1,7 @@
 use mathlib.Core.Path.{◌≡◌}
 use Prim.Native.Nat.{ℕ, ◌+◌, ◌-◌}
-use native.Mathlib.Omega.{arith}
-use borrow.Author.Rules.{rules}
-use Rattle.rules.specs.Surface.{rect, number}
-use Rattle.modules.proofs.Plane.{Adding, walk_none, walk_more, add_all}
+use Rattle.rules.specs.Surface.{rect}
+use Rattle.modules.proofs.Plane.{Adding}
 use Rattle.modules.proofs.add.Given as goal
 
 -- what the walk gives the cells of column c: the number of a module there, in whichever slot (`returns`)

@@ -1,6 +1,6 @@
 -- `modules::fill` meets its contract. The invariant is the promise itself, as far as the loop has come. Assumes nothing.
 use mathlib.Core.Path.{◌≡◌, sym, subst, subst₂, ◌∙◌, ap}
-use Prim.Native.Nat.{◌+◌, ◌*◌, ◌≤◌, ◌<◌, ◌-◌}
+use Prim.Native.Nat.{◌+◌, ◌*◌, ◌<◌}
 use native.Mathlib.Omega.{arith}
 use lib.ListN.{length, set}
 use mir.Syntax.{w16}

@@ -1,13 +1,5 @@
-use mathlib.Core.Path.{◌≡◌, sym, subst, subst₂, ◌∙◌, ap}
-use Prim.Native.Nat.{◌+◌, ◌*◌, ◌≤◌, ◌<◌, ◌-◌}
-use native.Mathlib.Omega.{arith}
-use lib.ListN.{length, set}
-use mir.Syntax.{w16}
-use mir.Val.{to_z, of_z}
-use mir.ValLaws.{to_z-of_z}
+use Prim.Native.Nat.{◌≤◌, ◌-◌}
 use Rattle.modules.specs.Walk.{Filled}
-use Rattle.modules.proofs.Grid.{on}
-use Rattle.modules.proofs.Walks.{fill_none, fill_more}
 use Rattle.modules.proofs.fill.Given as goal
 
 -- the promise itself, as far as the loop has come

@@ -1,6 +1,5 @@
 -- `modules::put_in` meets its contract: the law `put_weights` at what `add` and `put_record` promise. Assumes nothing.
 use Rattle.modules.proofs.Weights.{put_weights}
-use borrow.Author.Rules.{rules}
 use Rattle.modules.proofs.put_in.Goals as goal
 
 pub returns : goal.returns

@@ -1,6 +1,6 @@
 -- `modules::recount` meets its contract. The invariant is `Counting`; the walk ends at the edge or at an occupied cell. Assumes nothing.
 use mathlib.Core.Path.{◌≡◌, sym, subst, ◌∙◌, ap}
-use Prim.Native.Nat.{◌+◌, ◌*◌, ◌≤◌, ◌<◌, ◌-◌}
+use Prim.Native.Nat.{◌+◌, ◌*◌, ◌<◌}
 use native.Mathlib.Omega.{arith}
 use lib.IntN.{pos}
 use lib.ListN.{length, set, get_or}

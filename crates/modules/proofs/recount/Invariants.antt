@@ -1,12 +1,5 @@
-use mathlib.Core.Path.{◌≡◌, sym, subst, ◌∙◌, ap}
-use Prim.Native.Nat.{◌+◌, ◌*◌, ◌≤◌, ◌<◌, ◌-◌}
-use native.Mathlib.Omega.{arith}
-use lib.IntN.{pos}
-use lib.ListN.{length, set, get_or}
-use Rattle.cells.specs.Weight.{taken_z}
-use Rattle.rules.specs.Surface.{cell}
-use Rattle.modules.proofs.Grid.{on}
-use Rattle.modules.proofs.Walks.{Counting, count_none, count_more, count_edge, count_taken}
+use Prim.Native.Nat.{◌≤◌, ◌-◌}
+use Rattle.modules.proofs.Walks.{Counting}
 use Rattle.modules.proofs.recount.Given as goal
 
 abbrev pub invariant-loop-r : goal.invariant-loop-r

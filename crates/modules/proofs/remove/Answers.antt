@@ -1,11 +1,9 @@
 -- `modules::remove` meets its contract. A column that is still to come has its count above the module still. Assumes nothing.
-use mathlib.Core.Path.{◌≡◌}
 use mathlib.Core.Logic.{inr}
-use Prim.Native.Nat.{◌+◌, ◌-◌}
 use native.Mathlib.Omega.{arith}
 use borrow.Author.Rules.{rules}
 use Rattle.rules.specs.Surface.{rect}
-use Rattle.modules.proofs.Plane.{Removing, walk_none, walk_more, remove_all, above_same}
+use Rattle.modules.proofs.Plane.{walk_none, walk_more, remove_all, above_same}
 use Rattle.modules.proofs.remove.Goals as goal
 
 pub loop-c-init : goal.loop-c-init

@@ -1,10 +1,7 @@
 use mathlib.Core.Path.{◌≡◌}
-use mathlib.Core.Logic.{inr}
 use Prim.Native.Nat.{◌+◌, ◌-◌}
-use native.Mathlib.Omega.{arith}
-use borrow.Author.Rules.{rules}
 use Rattle.rules.specs.Surface.{rect}
-use Rattle.modules.proofs.Plane.{Removing, walk_none, walk_more, remove_all, above_same}
+use Rattle.modules.proofs.Plane.{Removing}
 use Rattle.modules.proofs.remove.Given as goal
 
 abbrev pub invariant-loop-c : goal.invariant-loop-c

@@ -1,6 +1,5 @@
 -- `modules::remove_column` meets its contract: the law `column_removed` at what the three calls promise. Assumes nothing.
 use Rattle.modules.proofs.Walks.{column_removed}
-use borrow.Author.Rules.{rules}
 use Rattle.modules.proofs.remove_column.Goals as goal
 
 pub returns : goal.returns

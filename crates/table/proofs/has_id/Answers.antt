@@ -2,7 +2,6 @@
 use mathlib.Core.Path.{sym, ap, ◌∙◌}
 use mathlib.Core.Bool.{not, ◌&&◌, and-false, and-true}
 use Rattle.rules.specs.Surface.{free_slot, id_of}
-use borrow.Author.Rules.{rules}
 use borrow.Author.Tests.{eq-eqb, ne_eqb}
 use Rattle.table.proofs.has_id.Goals as goal
 

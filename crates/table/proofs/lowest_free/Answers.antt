@@ -1,10 +1,8 @@
 -- `table::lowest_free` meets its contract: no slot before the one that the walk has come to is wanted. Assumes nothing.
-use mathlib.Core.Path.{◌≡◌, ◌∙◌}
-use Prim.Native.Nat.{◌-◌}
+use mathlib.Core.Path.{◌∙◌}
 use native.Mathlib.Omega.{arith}
-use Rattle.rules.specs.Surface.{slots, free_slot}
 use Rattle.rules.specs.Requests.{lowest_free}
-use Rattle.meaning.proofs.Tables.{Looked, look_none, look_more, look_found, look_end}
+use Rattle.meaning.proofs.Tables.{look_none, look_more, look_found, look_end}
 use Rattle.table.proofs.lowest_free.Goals as goal
 
 pub loop-i-init : goal.loop-i-init

@@ -1,9 +1,7 @@
-use mathlib.Core.Path.{◌≡◌, ◌∙◌}
+use mathlib.Core.Path.{◌≡◌}
 use Prim.Native.Nat.{◌-◌}
-use native.Mathlib.Omega.{arith}
 use Rattle.rules.specs.Surface.{slots, free_slot}
-use Rattle.rules.specs.Requests.{lowest_free}
-use Rattle.meaning.proofs.Tables.{Looked, look_none, look_more, look_found, look_end}
+use Rattle.meaning.proofs.Tables.{Looked}
 use Rattle.table.proofs.lowest_free.Given as goal
 
 abbrev pub invariant-loop-i : goal.invariant-loop-i

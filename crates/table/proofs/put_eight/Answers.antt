@@ -2,7 +2,6 @@
 use native.Mathlib.Omega.{arith}
 use lib.ListN.{length-set}
 use Rattle.table.proofs.Laws.{filled}
-use borrow.Author.Rules.{rules}
 use Rattle.table.proofs.put_eight.Goals as goal
 
 pub returns : goal.returns

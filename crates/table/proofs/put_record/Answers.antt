@@ -4,7 +4,6 @@ use Prim.Native.Nat.{◌*◌}
 use native.Mathlib.Omega.{arith}
 use Rattle.rules.specs.Surface.{record_of}
 use Rattle.table.proofs.Laws.{part_put}
-use borrow.Author.Rules.{rules}
 use Rattle.table.proofs.put_record.Goals as goal
 
 pub returns : goal.returns

@@ -1,4 +1,3 @@
-use borrow.Author.Rules.{rules}
 use Rattle.table.proofs.Laws.{free_sum}
 use Rattle.table.proofs.slot_free.Goals as goal
 

@@ -1,10 +1,8 @@
 -- `table::slot_of` meets its contract: no slot before the one that the walk has come to is wanted. Assumes nothing.
-use mathlib.Core.Path.{◌≡◌, ◌∙◌}
-use Prim.Native.Nat.{◌-◌}
+use mathlib.Core.Path.{◌∙◌}
 use native.Mathlib.Omega.{arith}
-use Rattle.rules.specs.Surface.{slots}
-use Rattle.rules.specs.Requests.{has_id, slot_of}
-use Rattle.meaning.proofs.Tables.{Looked, look_none, look_more, look_found, look_end}
+use Rattle.rules.specs.Requests.{slot_of}
+use Rattle.meaning.proofs.Tables.{look_none, look_more, look_found, look_end}
 use Rattle.table.proofs.slot_of.Goals as goal
 
 pub loop-i-init : goal.loop-i-init

@@ -1,9 +1,8 @@
-use mathlib.Core.Path.{◌≡◌, ◌∙◌}
+use mathlib.Core.Path.{◌≡◌}
 use Prim.Native.Nat.{◌-◌}
-use native.Mathlib.Omega.{arith}
 use Rattle.rules.specs.Surface.{slots}
-use Rattle.rules.specs.Requests.{has_id, slot_of}
-use Rattle.meaning.proofs.Tables.{Looked, look_none, look_more, look_found, look_end}
+use Rattle.rules.specs.Requests.{has_id}
+use Rattle.meaning.proofs.Tables.{Looked}
 use Rattle.table.proofs.slot_of.Given as goal
 
 abbrev pub invariant-loop-i : goal.invariant-loop-i

@@ -1,6 +1,5 @@
 use mathlib.Core.Path.{refl, sym, ◌∙◌}
 use native.Mathlib.Omega.{arith}
-use borrow.Author.Rules.{rules}
 use Rattle.surface.proofs.ExamineLaws.{ones_part, part}
 use Rattle.rules.specs.Host.{lent}
 use Rattle.lent.specs.Lent.{Right}

@@ -1,7 +1,6 @@
 use mathlib.Core.Path.{◌≡◌}
 use mathlib.Core.Bool.{true}
 use native.Mathlib.Omega.{arith}
-use borrow.Author.Rules.{rules}
 use Rattle.rules.specs.Surface.{stands, used_slots}
 use Rattle.rules.specs.Host.{weights_of}
 use Rattle.meaning.proofs.Counts.{used_few}

@@ -1,5 +1,4 @@
 use mathlib.Core.Path.{sym, ◌∙◌}
-use borrow.Author.Rules.{rules}
 use Rattle.rules.specs.Host.{lent}
 use Rattle.lent.specs.Lent.{Right}
 use Rattle.lent.proofs.Laws.{lent_good, lent_long, lent_area, clear_refused, clear_done}

@@ -1,5 +1,4 @@
 use mathlib.Core.Path.{refl, sym}
-use borrow.Author.Rules.{rules}
 use Rattle.surface.proofs.ExamineLaws.{part}
 use Rattle.lent.proofs.clear.clear_bytes.Goals as goal
 

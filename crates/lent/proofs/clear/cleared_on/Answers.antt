@@ -1,5 +1,4 @@
 use mathlib.Core.Path.{ap, ◌∙◌}
-use borrow.Author.Rules.{rules}
 use Rattle.rules.specs.Host.{bytes_of}
 use Rattle.lent.proofs.clear.cleared_on.Goals as goal
 

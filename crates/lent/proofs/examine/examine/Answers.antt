@@ -1,8 +1,6 @@
 use mathlib.Core.Path.{sym, ap, ◌∙◌}
 use Prim.Native.Nat.{◌*◌}
 use lib.ListN.{length}
-use borrow.Author.Rules.{rules}
-use borrow.Author.Tests.{not-true, not-false}
 use Rattle.rules.specs.Host.{lent, bad_bytes, weights_of}
 use Rattle.rules.proofs.Tests.{not_both}
 use Rattle.cells.proofs.Laws.{same_equal}

@@ -1,6 +1,5 @@
 use mathlib.Core.Path.{◌≡◌}
 use mathlib.Core.Bool.{true}
-use borrow.Author.Rules.{rules}
 use Rattle.rules.specs.Surface.{stands}
 use Rattle.rules.specs.Host.{weights_of}
 use Rattle.surface.proofs.ExamineLaws.{stood, fallen}

@@ -2,7 +2,6 @@ use mathlib.Core.Path.{◌≡◌, sym, ap, ◌∙◌, subst}
 use mathlib.Core.Bool.{true}
 use Prim.Native.Nat.{◌*◌}
 use native.Mathlib.Omega.{arith}
-use borrow.Author.Rules.{rules}
 use lib.ListN.{length}
 use Rattle.rules.specs.Surface.{stands}
 use Rattle.rules.specs.Blocks.{started, requests, after}
@@ -63,7 +62,7 @@ overflow_mul-result c =
 pub shape_of-b : goal.shape_of-b
 shape_of-b c =
     elim c.if-n-gt0.branch [
-      then-n-gt0 w ↦ ap length w.b-is ∙ w.encode.auto.b
+      | then-n-gt0 w ↦ ap length w.b-is ∙ w.encode.auto.b
       | else-n-gt0 w ↦ ap length w.b-is
     ]
 
@@ -73,6 +72,6 @@ returns c =
     let y = c.slice_known-1.given in
     ran_done _ _ _ _ _ _ c.requires.0.right (told (goal.at.returns c).In-Stands) _ _ _ _ _ r
     (elim c.if-n-gt0.branch [
-      then-n-gt0 w ↦ w.b-is ∙ w.encode.ensures ∙ ap bytes_of r.weights
+      | then-n-gt0 w ↦ w.b-is ∙ w.encode.ensures ∙ ap bytes_of r.weights
       | else-n-gt0 w ↦ w.b-is ∙ unwritten _ _ _ _ _ c.args.answers.now (λ c. omega (arith, y c)) (lent_long _ _ _ _ (given (goal.at.returns c).Start)) (omega (arith, r.accepted, w.if-n-gt0.false))
     ])

@@ -1,7 +1,6 @@
 use mathlib.Core.Path.{refl, sym, ◌∙◌}
 use Prim.Native.Nat.{◌*◌, ◌≤◌}
 use native.Mathlib.Omega.{arith}
-use borrow.Author.Rules.{rules}
 use Rattle.surface.proofs.ExamineLaws.{ones_part, part}
 use Rattle.rules.specs.Host.{lent}
 use Rattle.lent.specs.Lent.{RightBlock}

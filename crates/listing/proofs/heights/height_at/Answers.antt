@@ -5,7 +5,6 @@ use mir.Syntax.{w16}
 use mir.ValLaws.{to_z-of_z}
 use Rattle.cells.specs.Weight.{count_of}
 use Rattle.listing.proofs.Cells.{count_is, count_low}
-use borrow.Author.Rules.{rules}
 use Rattle.listing.proofs.heights.height_at.Goals as goal
 
 -- its count is the height

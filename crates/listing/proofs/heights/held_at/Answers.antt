@@ -8,7 +8,6 @@ use mir.Syntax.{w16}
 use mir.ValLaws.{to_z-of_z}
 use Rattle.cells.specs.Weight.{taken_z}
 use Rattle.listing.proofs.Cells.{taken_is}
-use borrow.Author.Rules.{rules}
 use Rattle.listing.proofs.heights.held_at.Goals as goal
 
 pub returns-then-y-h : goal.returns-then-y-h

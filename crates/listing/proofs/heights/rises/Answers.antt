@@ -4,7 +4,6 @@ use mir.Syntax.{w16}
 use mir.ValLaws.{to_z-of_z}
 use lib.Signed.{lt_z}
 use Rattle.listing.proofs.Cells.{rises_is}
-use borrow.Author.Rules.{rules}
 use Rattle.listing.proofs.heights.rises.Goals as goal
 
 pub returns : goal.returns

@@ -4,7 +4,6 @@ use mir.Syntax.{w16}
 use mir.ValLaws.{to_z-of_z}
 use Rattle.cells.specs.Weight.{width_of}
 use Rattle.listing.proofs.Cells.{width_strides}
-use borrow.Author.Rules.{rules}
 use Rattle.listing.proofs.heights.run_at.Goals as goal
 
 pub returns : goal.returns

@@ -1,13 +1,8 @@
-use mathlib.Core.Path.{◌≡◌, refl, sym, ap, ◌∙◌}
-use mathlib.Core.Bool.{true, false}
-use Prim.Native.Nat.{◌-◌, ◌≤◌}
-use native.Mathlib.Nat.{le_refl}
-use native.Mathlib.Omega.{arith}
+use mathlib.Core.Path.{◌≡◌}
+use Prim.Native.Nat.{◌≤◌}
 use Rattle.rules.specs.Surface.{occupied}
 use Rattle.listing.specs.Row.{reach}
 use Rattle.listing.specs.Listed.{support}
-use Rattle.listing.proofs.Cells.{held_by}
-use Rattle.listing.proofs.Walks.{reach_by}
 use Rattle.listing.proofs.heights.settle.Given as goal
 
 abbrev pub invariant-loop-c : goal.invariant-loop-c

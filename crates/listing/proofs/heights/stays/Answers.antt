@@ -4,7 +4,6 @@ use mir.Syntax.{w16}
 use mir.ValLaws.{to_z-of_z}
 use Rattle.rules.specs.Tests.{eq_z}
 use Rattle.listing.proofs.Cells.{stays_is}
-use borrow.Author.Rules.{rules}
 use Rattle.listing.proofs.heights.stays.Goals as goal
 
 pub returns : goal.returns

@@ -3,7 +3,6 @@ use Prim.Native.Nat.{◌+◌, ◌*◌, ◌<◌}
 use native.Mathlib.Omega.{arith}
 use lib.ListN.{length}
 use Rattle.listing.proofs.Cells.{number_in}
-use borrow.Author.Rules.{rules}
 use Rattle.listing.proofs.heights.weight_at.Goals as goal
 use Rattle.listing.proofs.heights.weight_at.Goals.{Start}
 

@@ -1,18 +1,17 @@
 -- `listing::list::write_list` meets its contract. Assumes nothing.
 use mathlib.Core.Path.{◌≡◌, refl, ap, ◌∙◌}
 use mathlib.Core.Bool.{true}
-use Prim.Native.Nat.{◌-◌, ◌*◌, ◌≤◌}
+use Prim.Native.Nat.{◌*◌}
 use native.Mathlib.Omega.{arith}
-use borrow.Author.Rules.{rules}
 use lib.ListN.{length}
 use Rattle.rules.specs.Surface.{occupied}
 use Rattle.rules.specs.Empties.{scanned}
 use Rattle.listing.specs.Listed.{rects_in, records_in, written}
 use Rattle.listing.proofs.ListLaws.{held_drawn, unscanned_rects, rects_length}
-use Rattle.listing.proofs.Spans.{Rooms, rooms_kept, rooms_wide}
+use Rattle.listing.proofs.Spans.{rooms_kept, rooms_wide}
 use Rattle.listing.proofs.ScanLaws.{scan_no, scan_yes}
-use Rattle.listing.proofs.Counted.{Turned, turned_none, row_corners, turned_more, turned_skip, turned_all}
-use Rattle.listing.proofs.Written.{Wrote, wrote_none, wrote_long, wrote_fits, wrote_more, wrote_skip, wrote_all, wrote_count, records_length, rows_records}
+use Rattle.listing.proofs.Counted.{turned_none, row_corners, turned_more, turned_skip, turned_all}
+use Rattle.listing.proofs.Written.{wrote_none, wrote_long, wrote_fits, wrote_more, wrote_skip, wrote_all, wrote_count, records_length, rows_records}
 use Rattle.listing.proofs.list.write_list.Goals as goal
 use Rattle.listing.proofs.list.write_list.Goals.{After-row-c, After-write_row}
 

@@ -1,10 +1,10 @@
 -- `listing::list::write_row` meets its contract. Assumes nothing.
 use mathlib.Core.Path.{◌≡◌, refl}
-use Prim.Native.Nat.{◌+◌, ◌-◌, ◌≤◌}
+use Prim.Native.Nat.{◌+◌, ◌≤◌}
 use native.Mathlib.Omega.{arith}
 use lib.ListN.{length}
 use Rattle.cells.proofs.Parts.{part_long}
-use Rattle.listing.proofs.Written.{Recorded, record_none, record_long, record_more, record_all}
+use Rattle.listing.proofs.Written.{record_none, record_long, record_more, record_all}
 use Rattle.listing.proofs.list.write_row.Goals as goal
 use Rattle.listing.proofs.list.write_row.Goals.{At-loop-i, In-loop-i}
 

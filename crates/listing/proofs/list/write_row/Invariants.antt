@@ -1,9 +1,5 @@
-use mathlib.Core.Path.{◌≡◌, refl}
-use Prim.Native.Nat.{◌+◌, ◌-◌, ◌≤◌}
-use native.Mathlib.Omega.{arith}
-use lib.ListN.{length}
-use Rattle.cells.proofs.Parts.{part_long}
-use Rattle.listing.proofs.Written.{Recorded, record_none, record_long, record_more, record_all}
+use Prim.Native.Nat.{◌-◌}
+use Rattle.listing.proofs.Written.{Recorded}
 use Rattle.listing.proofs.list.write_row.Given as goal
 
 abbrev pub invariant-loop-i : goal.invariant-loop-i

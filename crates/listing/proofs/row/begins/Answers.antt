@@ -1,6 +1,5 @@
 -- `listing::row::begins` meets its contract. Assumes nothing.
 use borrow.Author.Tests.{eq-eqb, ne_eqb}
-use borrow.Author.Rules.{rules}
 use Rattle.listing.proofs.row.begins.Goals as goal
 
 pub returns-then-v-eq0 : goal.returns-then-v-eq0

@@ -3,7 +3,6 @@ use Rattle.rules.specs.Surface.{occupied}
 use Rattle.listing.proofs.Walks.{written_length}
 use Rattle.listing.proofs.ListLaws.{row_few}
 use native.Mathlib.Omega.{arith}
-use borrow.Author.Rules.{rules}
 use Rattle.listing.proofs.row.row.Goals as goal
 
 pub walk-requires : goal.walk-requires

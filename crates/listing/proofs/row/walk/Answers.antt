@@ -2,10 +2,9 @@
 use mathlib.Core.Path.{◌≡◌, sym, ◌∙◌, subst}
 use mathlib.Core.Bool.{Bool, false, not}
 use mathlib.Core.Logic.{⊎_elim}
-use Prim.Native.Nat.{ℕ, ◌-◌, ◌≤◌, ◌<◌}
+use Prim.Native.Nat.{ℕ, ◌≤◌, ◌<◌}
 use native.Mathlib.Nat.{le_refl, eq-or-lt_of_le}
 use native.Mathlib.Omega.{arith}
-use borrow.Author.Rules.{rules}
 use lib.Dec.{ltb}
 use borrow.Author.Tests.{ltb-true, ltb-false, eqb-true, not-true}
 use Rattle.rules.specs.Surface.{occupied}
@@ -14,7 +13,7 @@ use Rattle.listing.specs.Row.{Open}
 use Rattle.listing.specs.Listed.{height_of, support, entries_in}
 use Rattle.listing.proofs.Cells.{height_past, height_taken, height_low, unheld, open_high, none_taken, stays_not}
 use Rattle.listing.proofs.Corners.{turns_le, one_or_none}
-use Rattle.listing.proofs.Walks.{Going, rise, fits_in, fits_out, enters, cut_above, before_low, go_start, go_stay, go_rise, go_skip, go_fall, go_end}
+use Rattle.listing.proofs.Walks.{rise, fits_in, fits_out, enters, cut_above, before_low, go_start, go_stay, go_rise, go_skip, go_fall, go_end}
 use Rattle.listing.proofs.row.walk.Goals as goal
 use Rattle.listing.proofs.row.walk.Goals.{After-height_at-v, After-height_at-v-else-u-eq0, After-loop-x, At-loop-x, In-loop-x, Start, Then-u-eq0}
 
@@ -228,6 +227,6 @@ returns c =
     let out = c.emit-all in
     let g =
     go_end (bare (goal.at.returns c).Start) c.loop-x.invariant c.loop-x-test.false (height_past _ _ _ _ (le_refl _)) _ _ out.result out.new.lefts out.new.rights out.new.heights
-        c.left_of-last.ensures c.settle-e-2.ensures
-        out.auto.lefts out.auto.rights out.auto.heights out.ensures _ c.past.ensures
+    c.left_of-last.ensures c.settle-e-2.ensures
+    out.auto.lefts out.auto.rights out.auto.heights out.ensures _ c.past.ensures
     in record { entries_after = g.0; corners_value = g.1 }

@@ -1,7 +1,6 @@
 -- `listing::scanned::mark` meets its contract. Assumes nothing.
 use mathlib.Core.Path.{sym, ap, ◌∙◌}
 use native.Mathlib.Omega.{arith}
-use borrow.Author.Rules.{rules}
 use Rattle.rules.specs.declared.Rect.{Rect}
 use Rattle.listing.proofs.Cells.{positive}
 use Rattle.listing.proofs.ScanLaws.{free_marks, other_marks, set-marks}

@@ -2,10 +2,8 @@
 use mathlib.Core.Path.{◌≡◌, refl, ◌∙◌}
 use Prim.Native.Nat.{◌-◌}
 use native.Mathlib.Omega.{arith}
-use borrow.Author.Rules.{rules}
 use lib.ListN.{length, length-set}
-use Rattle.rules.specs.Surface.{slots}
-use Rattle.listing.proofs.ScanLaws.{Marked, mark_start, mark_more, mark_end}
+use Rattle.listing.proofs.ScanLaws.{mark_start, mark_more, mark_end}
 use Rattle.listing.proofs.scanned.scanned_rows.Goals as goal
 use Rattle.listing.proofs.scanned.scanned_rows.Goals.{At-loop-i}
 

@@ -1,10 +1,6 @@
-use mathlib.Core.Path.{◌≡◌, refl, ◌∙◌}
 use Prim.Native.Nat.{◌-◌}
-use native.Mathlib.Omega.{arith}
-use borrow.Author.Rules.{rules}
-use lib.ListN.{length, length-set}
 use Rattle.rules.specs.Surface.{slots}
-use Rattle.listing.proofs.ScanLaws.{Marked, mark_start, mark_more, mark_end}
+use Rattle.listing.proofs.ScanLaws.{Marked}
 use Rattle.listing.proofs.scanned.scanned_rows.Given as goal
 
 abbrev pub invariant-loop-i : goal.invariant-loop-i

@@ -1,11 +1,9 @@
 -- `listing::scanned::unmark` meets its contract. Assumes nothing.
-use mathlib.Core.Path.{◌≡◌, refl, ◌∙◌}
-use Prim.Native.Nat.{◌-◌, ◌≤◌}
+use mathlib.Core.Path.{refl, ◌∙◌}
 use native.Mathlib.Omega.{arith}
 use borrow.Author.Count.{below_none, below_more}
-use lib.ListN.{length, length-set}
+use lib.ListN.{length-set}
 use lib.Seq.{get_or-set_same, get_or-set_other}
-use Rattle.listing.specs.Listed.{Unmarked}
 use Rattle.listing.proofs.scanned.unmark.Goals as goal
 
 pub loop-y-init : goal.loop-y-init

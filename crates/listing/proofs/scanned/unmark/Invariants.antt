@@ -1,9 +1,6 @@
-use mathlib.Core.Path.{◌≡◌, refl, ◌∙◌}
+use mathlib.Core.Path.{◌≡◌}
 use Prim.Native.Nat.{◌-◌, ◌≤◌}
-use native.Mathlib.Omega.{arith}
-use borrow.Author.Count.{below_none, below_more}
-use lib.ListN.{length, length-set}
-use lib.Seq.{get_or-set_same, get_or-set_other}
+use lib.ListN.{length}
 use Rattle.listing.specs.Listed.{Unmarked}
 use Rattle.listing.proofs.scanned.unmark.Given as goal
 

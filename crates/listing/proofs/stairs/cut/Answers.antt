@@ -1,7 +1,5 @@
 -- `listing::stairs::cut` meets its contract. The height at k is not lower than v. Assumes nothing.
-use Prim.Native.Nat.{◌≤◌, ◌<◌}
 use native.Mathlib.Omega.{arith}
-use lib.ListN.{get_or}
 use Rattle.listing.proofs.Spans.{cut_found, cut_none}
 use Rattle.listing.proofs.stairs.cut.Goals as goal
 

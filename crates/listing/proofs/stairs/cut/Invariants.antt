@@ -1,7 +1,5 @@
 use Prim.Native.Nat.{◌≤◌, ◌<◌}
-use native.Mathlib.Omega.{arith}
 use lib.ListN.{get_or}
-use Rattle.listing.proofs.Spans.{cut_found, cut_none}
 use Rattle.listing.proofs.stairs.cut.Given as goal
 
 abbrev pub invariant-loop-k : goal.invariant-loop-k

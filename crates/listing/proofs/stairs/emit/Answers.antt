@@ -1,11 +1,7 @@
 -- `listing::stairs::emit` meets its contract. What is written and what is still to leave are together what had to leave. Assumes nothing.
 use mathlib.Core.Path.{refl}
-use mathlib.Core.Logic.{⊎_elim}
-use mathlib.Core.List.{◌++◌}
-use Prim.Native.Nat.{◌-◌}
 use native.Mathlib.Omega.{arith}
-use Rattle.listing.specs.Row.{rows, leaving, span, stair_at}
-use Rattle.listing.proofs.Turns.{Emitted, emit_end, emit_low, emit_unheld, emit_put, emit_at}
+use Rattle.listing.proofs.Turns.{emit_end, emit_low, emit_unheld, emit_put, emit_at}
 use Rattle.listing.proofs.stairs.emit.Goals as goal
 use Rattle.listing.proofs.stairs.emit.Goals.{then-v-h+then-l-e, then-v-h+else-l-e, else-v-h}
 
@@ -22,7 +18,7 @@ loop-i-preserved c =
     let h = c.loop-i.invariant in
     let p = c.loop-i-test.true in
     elim c.if-v-h.branch [
-      then-v-h+then-l-e w ↦ emit_at w.lefts-is w.rights-is w.heights-is w.o-is (emit_put h p w.if-v-h.true w.if-l-e.true)
+      | then-v-h+then-l-e w ↦ emit_at w.lefts-is w.rights-is w.heights-is w.o-is (emit_put h p w.if-v-h.true w.if-l-e.true)
       | then-v-h+else-l-e w ↦ emit_at w.lefts-is w.rights-is w.heights-is w.o-is (emit_unheld h p w.if-l-e.false)
       | else-v-h w ↦ emit_at w.lefts-is w.rights-is w.heights-is w.o-is (emit_low h p w.if-v-h.false)
     ]

@@ -1,10 +1,7 @@
-use mathlib.Core.Path.{refl}
-use mathlib.Core.Logic.{⊎_elim}
 use mathlib.Core.List.{◌++◌}
 use Prim.Native.Nat.{◌-◌}
-use native.Mathlib.Omega.{arith}
 use Rattle.listing.specs.Row.{rows, leaving, span, stair_at}
-use Rattle.listing.proofs.Turns.{Emitted, emit_end, emit_low, emit_unheld, emit_put, emit_at}
+use Rattle.listing.proofs.Turns.{Emitted}
 use Rattle.listing.proofs.stairs.emit.Given as goal
 
 abbrev pub invariant-loop-i : goal.invariant-loop-i

@@ -1,6 +1,5 @@
 -- `listing::stairs::first` meets its contract. Assumes nothing.
 use borrow.Author.Tests.{lt-ltb, le-ltb}
-use borrow.Author.Rules.{rules}
 use Rattle.listing.proofs.stairs.first.Goals as goal
 
 pub returns-then-k-n : goal.returns-then-k-n

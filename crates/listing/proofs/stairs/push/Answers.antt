@@ -1,7 +1,6 @@
 -- `listing::stairs::push` meets its contract. Assumes nothing.
 use Rattle.listing.proofs.Cells.{positive}
 use Rattle.listing.proofs.Turns.{push_none, push_some}
-use borrow.Author.Rules.{rules}
 use Rattle.listing.proofs.stairs.push.Goals as goal
 
 pub returns-then-v-eq0 : goal.returns-then-v-eq0

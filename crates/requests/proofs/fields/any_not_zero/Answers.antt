@@ -1,6 +1,5 @@
 -- `requests::fields::any_not_zero` meets its contract. Assumes nothing.
 use Rattle.requests.proofs.Lines.{five_zero}
-use borrow.Author.Rules.{rules}
 use Rattle.requests.proofs.fields.any_not_zero.Goals as goal
 
 pub returns : goal.returns

@@ -1,5 +1,4 @@
 use Rattle.meaning.proofs.Rectangles.{rect_eq}
-use borrow.Author.Rules.{rules}
 use Rattle.requests.proofs.fields.pinned.Goals as goal
 
 pub returns : goal.returns

@@ -13,7 +13,6 @@ use Rattle.modules.proofs.Place.{untaken_empty}
 use Rattle.meaning.proofs.Steps.{empty_parts}
 use Rattle.choice.specs.Best.{Chosen}
 use Rattle.requests.proofs.StepLaws.{chose_same, chose_none, chose_some, rule_none, rule_some, on_weights}
-use borrow.Author.Rules.{rules}
 use Rattle.requests.proofs.judge.by_rule.Goals as goal
 use Rattle.requests.proofs.judge.by_rule.Goals.{After-choose-c, After-none_taken, In-At}
 

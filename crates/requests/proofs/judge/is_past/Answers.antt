@@ -2,7 +2,6 @@ use mathlib.Core.Path.{refl, sym}
 use borrow.Author.Tests.{lt-ltb, le-ltb}
 use Rattle.rules.proofs.Tests.{or_left}
 use Rattle.requests.proofs.Lines.{or_is}
-use borrow.Author.Rules.{rules}
 use Rattle.requests.proofs.judge.is_past.Goals as goal
 
 pub returns-then-w-r : goal.returns-then-w-r

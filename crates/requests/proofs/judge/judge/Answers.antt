@@ -6,7 +6,6 @@ use Rattle.requests.specs.Steps.{Passes}
 use Rattle.meaning.proofs.Operations.{step_unsound, by_asks, exchange_by, last_op}
 use Rattle.requests.proofs.Lines.{form_refuses, id_decides}
 use Rattle.requests.proofs.StepLaws.{exchange_rule}
-use borrow.Author.Rules.{rules}
 use Rattle.requests.proofs.judge.judge.Goals as goal
 use Rattle.requests.proofs.judge.judge.Goals.{After-id_code-d, Else-d-ne0}
 

@@ -13,7 +13,6 @@ use Rattle.meaning.proofs.Operations.{none_free, one_free, size_some, pin_tested
 use Rattle.meaning.proofs.Steps.{past_on, at_place_lem}
 use Rattle.rules.proofs.Tests.{or_right}
 use Rattle.requests.proofs.StepLaws.{on_weights}
-use borrow.Author.Rules.{rules}
 use Rattle.requests.proofs.judge.judge_pin.Goals as goal
 use Rattle.requests.proofs.judge.judge_pin.Goals.{After-bottom_reaches, After-is_past, Else-is_past}
 

@@ -1,7 +1,6 @@
 -- `requests::judge::judge_place` meets its contract. Assumes nothing.
 use Rattle.meaning.proofs.Operations.{none_free, one_free, by_asks, place_by}
 use Rattle.requests.proofs.StepLaws.{place_full, place_rule}
-use borrow.Author.Rules.{rules}
 use Rattle.requests.proofs.judge.judge_place.Goals as goal
 
 pub returns-then-t-i : goal.returns-then-t-i

@@ -1,5 +1,4 @@
 -- `requests::reader::serve_at` meets its contract. Assumes nothing.
-use borrow.Author.Rules.{rules}
 use Rattle.requests.proofs.Turns.{served_at}
 use Rattle.requests.proofs.reader.serve_at.Goals as goal
 

@@ -1,15 +1,13 @@
 -- `requests::run::run_on` meets its contract. Assumes nothing.
-use mathlib.Core.Path.{◌≡◌, sym, ap, subst, subst₂, ◌∙◌}
+use mathlib.Core.Path.{◌≡◌, sym, ap, subst₂, ◌∙◌}
 use mathlib.Core.List.{List}
-use mathlib.Core.Bool.{true}
-use Prim.Native.Nat.{ℕ, suc, ◌+◌, ◌*◌, ◌<◌}
+use Prim.Native.Nat.{ℕ, suc, ◌<◌}
 use native.Mathlib.Omega.{arith}
-use borrow.Author.Tests.{ltb-true, ltb-false}
+use borrow.Author.Tests.{ltb-true}
 use lib.ListN.{length}
 use Rattle.std.proofs.Common.{Bor}
-use Rattle.rules.specs.Blocks.{requests}
 use Rattle.requests.specs.Steps.{ServedAt}
-use Rattle.requests.proofs.Turns.{RanTo, ran_none, ran_suc, ran_all}
+use Rattle.requests.proofs.Turns.{ran_none, ran_suc}
 use Rattle.requests.proofs.run.run_on.Goals as goal
 
 pub loop-r-init : goal.loop-r-init

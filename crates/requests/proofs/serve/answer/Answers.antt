@@ -1,6 +1,5 @@
 -- `requests::serve::answer` meets its contract. Assumes nothing.
 use mathlib.Core.Path.{◌∙◌}
-use borrow.Author.Rules.{rules}
 use Rattle.requests.proofs.serve.answer.Goals as goal
 
 pub returns : goal.returns

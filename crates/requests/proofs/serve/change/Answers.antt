@@ -8,7 +8,6 @@ use Rattle.rules.specs.Requests.{id_low, id_high, needs_old, kind_asked, record_
 use Rattle.meaning.specs.Change.{Placing}
 use Rattle.meaning.proofs.Stands.{standing_fresh}
 use Rattle.requests.proofs.Accepted.{change_standing, change_taking, second_half, removed}
-use borrow.Author.Rules.{rules}
 use Rattle.requests.proofs.serve.change.Goals as goal
 use Rattle.requests.proofs.serve.change.Goals.{Joined-either, Then-q-ne2, then-either, else-either}
 
@@ -23,14 +22,14 @@ halved c =
     let old : (b : Bool) → c.either.result ≡ b → cond b (with_record t a.i free_record) t ≡ cond (needs_old a.q.now) (with_record t a.i free_record) t =
     λ b e. ap (λ b. cond b (with_record t a.i free_record) t) (sym e ∙ c.either.ensures) in
     elim c.if-either.branch [
-      then-either z ↦ (z.t-is ∙ z.take_out.ensures.t_after ∙ old true z.if-either.true, z.s-is ∙ z.take_out.ensures.s_after ∙ ap (fresh a.w a.h) (sym z.t-is))
+      | then-either z ↦ (z.t-is ∙ z.take_out.ensures.t_after ∙ old true z.if-either.true, z.s-is ∙ z.take_out.ensures.s_after ∙ ap (fresh a.w a.h) (sym z.t-is))
       | else-either z ↦ (z.t-is ∙ old false z.if-either.false, z.s-is ∙ standing_fresh _ _ _ _ (change_standing _ _ _ _ _ _ _ c.requires.change) ∙ ap (fresh a.w a.h) (sym z.t-is))
     ]
 
 long : (c : Joined-either) → let a = c.args in (length c.if-either.s ≡ length a.s.now) × (length c.if-either.t ≡ length a.t.now)
 long c =
     elim c.if-either.branch [
-      then-either z ↦ (ap length z.s-is ∙ z.take_out.auto.s, ap length z.t-is ∙ z.take_out.auto.t)
+      | then-either z ↦ (ap length z.s-is ∙ z.take_out.auto.s, ap length z.t-is ∙ z.take_out.auto.t)
       | else-either z ↦ (ap length z.s-is, ap length z.t-is)
     ]
 

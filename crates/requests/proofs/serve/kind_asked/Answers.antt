@@ -3,7 +3,6 @@ use mathlib.Core.Path.{sym}
 use mathlib.Core.Bool.{true, false}
 use borrow.Author.Tests.{eq-eqb, ne_eqb}
 use Rattle.meaning.proofs.Steps.{kind_is}
-use borrow.Author.Rules.{rules}
 use Rattle.requests.proofs.serve.kind_asked.Goals as goal
 
 pub returns-then-q-eq6 : goal.returns-then-q-eq6

@@ -6,7 +6,6 @@ use Rattle.rules.specs.declared.Step.{Step}
 use Rattle.rules.specs.declared.Step.TheVariants.{Refused}
 use Rattle.meaning.proofs.Steps.{change}
 use Rattle.requests.proofs.Accepted.{change_on, on_bytes, served_by}
-use borrow.Author.Rules.{rules}
 use Rattle.requests.proofs.serve.serve.Goals as goal
 use Rattle.requests.proofs.serve.serve.Goals.{After-judge-d}
 

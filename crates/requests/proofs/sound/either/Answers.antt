@@ -1,6 +1,5 @@
 -- `requests::sound::either` meets its contract. Assumes nothing.
 use borrow.Author.Tests.{eq-eqb, ne_eqb}
-use borrow.Author.Rules.{rules}
 use Rattle.requests.proofs.sound.either.Goals as goal
 
 pub returns-then-q-a : goal.returns-then-q-a

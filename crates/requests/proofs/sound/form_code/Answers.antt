@@ -6,7 +6,6 @@ use lib.ListN.{drop}
 use Rattle.rules.specs.Judging.{first}
 use Rattle.requests.specs.Steps.{form_lines}
 use Rattle.meaning.proofs.First.{first_here, first_past, first_end}
-use borrow.Author.Rules.{rules}
 use Rattle.requests.proofs.sound.form_code.Goals as goal
 use Rattle.requests.proofs.sound.form_code.Goals.{Else-no_id, Else-rule_over, Else-stray, Else-unknown}
 

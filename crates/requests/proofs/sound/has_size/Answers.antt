@@ -2,7 +2,6 @@
 use mathlib.Core.Path.{sym, ◌∙◌}
 use Rattle.requests.proofs.Lines.{or_is}
 use Rattle.rules.proofs.Tests.{or_left}
-use borrow.Author.Rules.{rules}
 use Rattle.requests.proofs.sound.has_size.Goals as goal
 
 pub returns-then-either : goal.returns-then-either

@@ -8,7 +8,6 @@ use Rattle.rules.specs.Judging.{first}
 use Rattle.requests.specs.Steps.{id_lines}
 use Rattle.meaning.proofs.First.{first_here, first_past, first_end}
 use Rattle.meaning.proofs.Steps.{then_false}
-use borrow.Author.Rules.{rules}
 use Rattle.requests.proofs.sound.id_code.Goals as goal
 use Rattle.requests.proofs.sound.id_code.Goals.{Else-id_missing, Else-id_taken, Else-no_size, Else-of_hard}
 

@@ -1,7 +1,6 @@
 -- `requests::sound::id_taken` meets its contract. Assumes nothing.
 use mathlib.Core.Path.{refl, sym, ◌∙◌}
 use Rattle.requests.proofs.Lines.{and_no, and_is}
-use borrow.Author.Rules.{rules}
 use Rattle.requests.proofs.sound.id_taken.Goals as goal
 
 pub returns-then-makes_new : goal.returns-then-makes_new

@@ -3,7 +3,6 @@ use mathlib.Core.Path.{sym}
 use borrow.Author.Tests.{eq-eqb, ne_eqb}
 use Rattle.requests.proofs.Lines.{or_is}
 use Rattle.rules.proofs.Tests.{or_left}
-use borrow.Author.Rules.{rules}
 use Rattle.requests.proofs.sound.makes_new.Goals as goal
 
 pub returns-then-q-eq1 : goal.returns-then-q-eq1

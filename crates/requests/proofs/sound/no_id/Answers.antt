@@ -1,7 +1,6 @@
 -- `requests::sound::no_id` meets its contract. Assumes nothing.
 use mathlib.Core.Path.{ap}
 use lib.Dec.{eqb}
-use borrow.Author.Rules.{rules}
 use Rattle.requests.proofs.sound.no_id.Goals as goal
 
 pub returns : goal.returns

@@ -1,9 +1,8 @@
 -- `requests::sound::no_size` meets its contract. Assumes nothing.
 use mathlib.Core.Path.{refl, sym, ◌∙◌}
-use borrow.Author.Tests.{eq-eqb, ne_eqb, not-true, not-false}
+use borrow.Author.Tests.{eq-eqb, ne_eqb}
 use Rattle.requests.proofs.Lines.{and_no, and_is, or_is}
 use Rattle.rules.proofs.Tests.{or_left}
-use borrow.Author.Rules.{rules}
 use Rattle.requests.proofs.sound.no_size.Goals as goal
 
 pub returns-then-not-has_size : goal.returns-then-not-has_size

@@ -3,7 +3,6 @@ use mathlib.Core.Path.{refl, sym, ap, ◌∙◌}
 use native.Mathlib.Omega.{arith}
 use lib.Dec.{eqb}
 use Rattle.requests.proofs.Lines.{and_no, and_is}
-use borrow.Author.Rules.{rules}
 use Rattle.requests.proofs.sound.of_hard.Goals as goal
 
 pub kind_at-requires : goal.kind_at-requires

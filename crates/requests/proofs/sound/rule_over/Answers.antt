@@ -1,7 +1,6 @@
 -- `requests::sound::rule_over` meets its contract. Assumes nothing.
 use mathlib.Core.Path.{refl, sym, ◌∙◌}
 use Rattle.requests.proofs.Lines.{and_no, and_is}
-use borrow.Author.Rules.{rules}
 use Rattle.requests.proofs.sound.rule_over.Goals as goal
 
 pub returns-then-either : goal.returns-then-either

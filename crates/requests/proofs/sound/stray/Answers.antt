@@ -2,7 +2,6 @@
 use mathlib.Core.Path.{sym, ◌∙◌}
 use borrow.Author.Tests.{eq-eqb, ne_eqb}
 use Rattle.requests.proofs.Lines.{stray_remove, stray_there, stray_rule, stray_none}
-use borrow.Author.Rules.{rules}
 use Rattle.requests.proofs.sound.stray.Goals as goal
 
 pub returns-then-q-eq2 : goal.returns-then-q-eq2

@@ -7,7 +7,6 @@ use lib.Dec.{leb, eqb}
 use Rattle.rules.specs.Tests.{between}
 use Rattle.rules.specs.Requests.{operation}
 use Rattle.requests.proofs.Lines.{over}
-use borrow.Author.Rules.{rules}
 use Rattle.requests.proofs.sound.unknown.Goals as goal
 
 pub returns-then-q-lt1 : goal.returns-then-q-lt1

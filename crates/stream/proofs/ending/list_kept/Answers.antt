@@ -2,7 +2,6 @@
 use native.Mathlib.Omega.{arith}
 use Rattle.stream.proofs.Laws.{fits_room}
 use Rattle.stream.proofs.Rest.{listed_none, listed_some}
-use borrow.Author.Rules.{rules}
 use Rattle.stream.proofs.ending.list_kept.Goals as goal
 
 pub returns-then-w-eq0 : goal.returns-then-w-eq0

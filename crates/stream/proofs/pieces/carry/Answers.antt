@@ -1,9 +1,9 @@
 -- `stream::pieces::carry` meets its contract. Assumes nothing.
 use mathlib.Core.Path.{◌≡◌, refl}
-use Prim.Native.Nat.{◌+◌, ◌-◌, ◌%◌, ◌≤◌, ◌<◌}
+use Prim.Native.Nat.{◌+◌, ◌%◌, ◌≤◌, ◌<◌}
 use lib.ListN.{length}
 use native.Mathlib.Omega.{arith}
-use Rattle.stream.proofs.Rest.{moved, moved_none, moved_more, moved_long, moved_all}
+use Rattle.stream.proofs.Rest.{moved_none, moved_more, moved_long, moved_all}
 use Rattle.stream.proofs.pieces.carry.Goals as goal
 use Rattle.stream.proofs.pieces.carry.Goals.{At-loop-i, In-loop-i}
 

@@ -1,8 +1,6 @@
-use mathlib.Core.Path.{◌≡◌, refl}
-use Prim.Native.Nat.{◌+◌, ◌-◌, ◌%◌, ◌≤◌, ◌<◌}
-use lib.ListN.{length}
-use native.Mathlib.Omega.{arith}
-use Rattle.stream.proofs.Rest.{moved, moved_none, moved_more, moved_long, moved_all}
+use mathlib.Core.Path.{◌≡◌}
+use Prim.Native.Nat.{◌-◌, ◌≤◌}
+use Rattle.stream.proofs.Rest.{moved}
 use Rattle.stream.proofs.pieces.carry.Given as goal
 
 abbrev pub invariant-loop-i : goal.invariant-loop-i

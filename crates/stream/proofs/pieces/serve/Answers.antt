@@ -1,11 +1,11 @@
 -- `stream::pieces::serve` meets its contract. Assumes nothing.
 use mathlib.Core.Path.{◌≡◌, refl, sym, ◌∙◌}
-use Prim.Native.Nat.{◌+◌, ◌-◌, ◌*◌, ◌≤◌}
+use Prim.Native.Nat.{◌+◌, ◌*◌, ◌≤◌}
 use native.Mathlib.Omega.{arith}
 use lib.ListN.{length}
-use Rattle.stream.specs.Records.{kept, records}
+use Rattle.stream.specs.Records.{records}
 use Rattle.stream.proofs.Blocks.{from_whole, from_fits, lent_part}
-use Rattle.stream.proofs.Turns.{ServedTo, none_served, more_served, served_long, all_served}
+use Rattle.stream.proofs.Turns.{none_served, more_served, served_long, all_served}
 use Rattle.stream.proofs.pieces.serve.Goals as goal
 use Rattle.stream.proofs.pieces.serve.Goals.{After-together-m, At-loop-k, In-loop-k}
 

@@ -1,10 +1,6 @@
-use mathlib.Core.Path.{◌≡◌, refl, sym, ◌∙◌}
-use Prim.Native.Nat.{◌+◌, ◌-◌, ◌*◌, ◌≤◌}
-use native.Mathlib.Omega.{arith}
-use lib.ListN.{length}
-use Rattle.stream.specs.Records.{kept, records}
-use Rattle.stream.proofs.Blocks.{from_whole, from_fits, lent_part}
-use Rattle.stream.proofs.Turns.{ServedTo, none_served, more_served, served_long, all_served}
+use Prim.Native.Nat.{◌-◌, ◌≤◌}
+use Rattle.stream.specs.Records.{kept}
+use Rattle.stream.proofs.Turns.{ServedTo}
 use Rattle.stream.proofs.pieces.serve.Given as goal
 
 abbrev pub invariant-loop-k : goal.invariant-loop-k

@@ -1,6 +1,5 @@
 -- `stream::pieces::serve_block` meets its contract. Assumes nothing.
 use native.Mathlib.Omega.{arith}
-use borrow.Author.Rules.{rules}
 use Rattle.stream.proofs.Laws.{fits_room}
 use Rattle.stream.proofs.Blocks.{block_served}
 use Rattle.stream.proofs.pieces.serve_block.Goals as goal

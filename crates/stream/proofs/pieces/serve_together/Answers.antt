@@ -3,7 +3,6 @@ use mathlib.Core.Path.{sym, ◌∙◌}
 use native.Mathlib.Omega.{arith}
 use Rattle.stream.proofs.Laws.{not_apart}
 use Rattle.stream.proofs.Blocks.{one_served}
-use borrow.Author.Rules.{rules}
 use Rattle.stream.proofs.pieces.serve_together.Goals as goal
 
 pub serve_apart-requires : goal.serve_apart-requires

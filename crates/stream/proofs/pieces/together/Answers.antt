@@ -1,9 +1,6 @@
 -- `stream::pieces::together` meets its contract. Assumes nothing.
-use mathlib.Core.Path.{◌≡◌, sym, ◌∙◌}
-use mathlib.Core.Bool.{false}
-use Prim.Native.Nat.{◌-◌, ◌≤◌}
+use mathlib.Core.Path.{sym, ◌∙◌}
 use native.Mathlib.Omega.{arith}
-use Rattle.stream.specs.Promise.{Requests, apart}
 use Rattle.stream.proofs.Blocks.{one_request_more, first_request, alone_together, requests_together}
 use Rattle.stream.proofs.pieces.together.Goals as goal
 

@@ -2,7 +2,6 @@
 use mathlib.Core.Bool.{true, false}
 use borrow.Author.Tests.{eq-eqb, ne_eqb}
 use Rattle.stream.proofs.Laws.{apart_is}
-use borrow.Author.Rules.{rules}
 use Rattle.stream.proofs.records.apart.Goals as goal
 
 pub returns-then-w-eq0 : goal.returns-then-w-eq0

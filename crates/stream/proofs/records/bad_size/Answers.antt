@@ -2,7 +2,6 @@
 use native.Mathlib.Omega.{arith}
 use native.Mathlib.Nat.{mul-le-mul}
 use Rattle.stream.proofs.Laws.{size_told}
-use borrow.Author.Rules.{rules}
 use Rattle.stream.proofs.records.bad_size.Goals as goal
 
 pub overflow_mul-w : goal.overflow_mul-w

@@ -3,7 +3,6 @@ use mathlib.Core.Path.{◌≡◌, refl, sym, ◌∙◌}
 use mathlib.Core.Bool.{Bool, true, false, cond}
 use Rattle.stream.specs.Records.{clear_record_code}
 use Rattle.stream.proofs.Laws.{code_is}
-use borrow.Author.Rules.{rules}
 use Rattle.stream.proofs.records.clear_code.Goals as goal
 use Rattle.stream.proofs.records.clear_code.Goals.{After-bad_size}
 

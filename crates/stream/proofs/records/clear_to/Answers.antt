@@ -5,7 +5,6 @@ use Prim.Native.Nat.{◌*◌}
 use Rattle.stream.specs.Records.{onto}
 use Rattle.surface.proofs.ExamineLaws.{part}
 use native.Mathlib.Nat.{mul-le-mul}
-use borrow.Author.Rules.{rules}
 use Rattle.stream.proofs.records.clear_to.Goals as goal
 
 pub overflow_mul-n : goal.overflow_mul-n

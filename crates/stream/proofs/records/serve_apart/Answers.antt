@@ -1,6 +1,5 @@
 -- `stream::records::serve_apart` meets its contract. Assumes nothing.
 use Rattle.stream.proofs.Laws.{none_yet, apart_other, refused_served}
-use borrow.Author.Rules.{rules}
 use Rattle.stream.proofs.records.serve_apart.Goals as goal
 
 pub returns-then-q-ne5 : goal.returns-then-q-ne5

@@ -5,7 +5,6 @@ use Rattle.rules.specs.Requests.{answer_of}
 use Rattle.rules.specs.declared.Step.TheVariants.{Refused}
 use Rattle.meaning.proofs.Codes.{good_size}
 use Rattle.stream.proofs.Laws.{clear_refused, sizes_told, clear_served, refused_served}
-use borrow.Author.Rules.{rules}
 use Rattle.stream.proofs.records.serve_clear.Goals as goal
 
 pub returns-then-code-ne0 : goal.returns-then-code-ne0

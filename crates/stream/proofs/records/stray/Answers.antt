@@ -1,6 +1,5 @@
 -- `stream::records::stray` meets its contract. Assumes nothing.
 use Rattle.stream.specs.Records.{stray_clear}
-use borrow.Author.Rules.{rules}
 use Rattle.stream.proofs.records.stray.Goals as goal
 
 pub returns : goal.returns

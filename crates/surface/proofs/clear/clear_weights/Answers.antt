@@ -1,10 +1,8 @@
 use mathlib.Core.Path.{◌≡◌, sym, ap, ◌∙◌}
-use Prim.Native.Nat.{◌+◌, ◌*◌, ◌≤◌, ◌-◌}
+use Prim.Native.Nat.{◌+◌, ◌*◌, ◌≤◌}
 use native.Mathlib.Nat.{add-mul, mul_comm}
 use native.Mathlib.Omega.{arith}
-use lib.IntN.{pos}
-use Rattle.rules.specs.Calls.{cleared_weights}
-use Rattle.cells.proofs.Upto.{Upto, upto_none, upto_all}
+use Rattle.cells.proofs.Upto.{upto_none, upto_all}
 use Rattle.surface.proofs.RowLaws.{row_end}
 use Rattle.surface.proofs.ClearLaws.{cleared_long, cleared_more}
 use Rattle.surface.proofs.clear.clear_weights.Goals as goal

@@ -1,12 +1,8 @@
-use mathlib.Core.Path.{◌≡◌, sym, ap, ◌∙◌}
-use Prim.Native.Nat.{◌+◌, ◌*◌, ◌≤◌, ◌-◌}
-use native.Mathlib.Nat.{add-mul, mul_comm}
-use native.Mathlib.Omega.{arith}
+use mathlib.Core.Path.{◌≡◌}
+use Prim.Native.Nat.{◌*◌, ◌≤◌, ◌-◌}
 use lib.IntN.{pos}
 use Rattle.rules.specs.Calls.{cleared_weights}
-use Rattle.cells.proofs.Upto.{Upto, upto_none, upto_all}
-use Rattle.surface.proofs.RowLaws.{row_end}
-use Rattle.surface.proofs.ClearLaws.{cleared_long, cleared_more}
+use Rattle.cells.proofs.Upto.{Upto}
 use Rattle.surface.proofs.clear.clear_weights.Given as goal
 
 abbrev pub invariant-loop-y : goal.invariant-loop-y

@@ -1,9 +1,6 @@
-use mathlib.Core.Path.{refl, subst}
 use Prim.Native.Nat.{◌≤◌, ◌-◌}
-use native.Mathlib.Omega.{arith}
 use lib.IntN.{pos}
 use Rattle.surface.specs.Rows.{RowWritten}
-use Rattle.surface.proofs.RowLaws.{row_none, row_more}
 use Rattle.surface.proofs.clear.fill_row.Given as goal
 
 abbrev pub invariant-loop-i : goal.invariant-loop-i

@@ -1,8 +1,8 @@
 use mathlib.Core.Path.{◌≡◌, refl, sym, ◌∙◌}
-use Prim.Native.Nat.{ℕ, ◌≤◌, ◌-◌}
+use Prim.Native.Nat.{ℕ}
 use native.Mathlib.Omega.{arith}
-use lib.ListN.{length, replicate, length-set, length-replicate, get_or-replicate}
-use Rattle.cells.proofs.Upto.{Upto, upto_none, upto_more, upto_all}
+use lib.ListN.{length, length-set, length-replicate, get_or-replicate}
+use Rattle.cells.proofs.Upto.{upto_none, upto_more, upto_all}
 use Rattle.surface.proofs.clear.free_slots.Goals as goal
 use Rattle.surface.proofs.clear.free_slots.Goals.{At-loop-i}
 

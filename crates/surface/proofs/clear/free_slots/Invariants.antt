@@ -1,8 +1,6 @@
-use mathlib.Core.Path.{◌≡◌, refl, sym, ◌∙◌}
-use Prim.Native.Nat.{ℕ, ◌≤◌, ◌-◌}
-use native.Mathlib.Omega.{arith}
-use lib.ListN.{length, replicate, length-set, length-replicate, get_or-replicate}
-use Rattle.cells.proofs.Upto.{Upto, upto_none, upto_more, upto_all}
+use Prim.Native.Nat.{◌≤◌, ◌-◌}
+use lib.ListN.{length, replicate}
+use Rattle.cells.proofs.Upto.{Upto}
 use Rattle.surface.proofs.clear.free_slots.Given as goal
 
 abbrev pub invariant-loop-i : goal.invariant-loop-i

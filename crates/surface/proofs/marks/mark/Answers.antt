@@ -1,6 +1,6 @@
 -- The cells of a module, looked at and marked in one walk, as far as none is taken. Assumes nothing.
 use mathlib.Core.Path.{◌≡◌, refl, sym, ap, ◌∙◌, subst}
-use mathlib.Core.Bool.{true, false, not, false≢true}
+use mathlib.Core.Bool.{not, false≢true}
 use Prim.Native.Nat.{ℕ, ◌+◌, ◌*◌, ◌≤◌, ◌<◌, ◌-◌}
 use native.Mathlib.Nat.{le_refl}
 use native.Mathlib.Omega.{arith}

@@ -1,19 +1,10 @@
-use mathlib.Core.Path.{◌≡◌, refl, sym, ap, ◌∙◌, subst}
-use mathlib.Core.Bool.{true, false, not, false≢true}
+use mathlib.Core.Path.{◌≡◌}
+use mathlib.Core.Bool.{true}
 use Prim.Native.Nat.{ℕ, ◌+◌, ◌*◌, ◌≤◌, ◌<◌, ◌-◌}
-use native.Mathlib.Nat.{le_refl}
-use native.Mathlib.Omega.{arith}
-use borrow.Author.Count.{below_none, below_more}
-use lib.ListN.{length, set}
-use lib.IntN.{ℤ, pos, neg_ℤ}
-use Rattle.rules.specs.Surface.{number, cell}
-use Rattle.rules.proofs.Tests.{every_yes}
-use Rattle.cells.specs.Weight.{taken_z, untaken}
-use Rattle.cells.proofs.Laws.{cell_in, open_at, open_row, taken_one}
+use lib.IntN.{pos, neg_ℤ}
+use Rattle.cells.proofs.Laws.{open_at, open_row}
 use Rattle.surface.specs.Rows.{RowWritten}
 use Rattle.surface.specs.Marks.{Marked}
-use Rattle.surface.proofs.RowLaws.{row_none, row_more}
-use Rattle.surface.proofs.MarkLaws.{rect_none, rect_more}
 use Rattle.surface.proofs.marks.mark.Given as goal
 
 -- what the walk marks the cells of column c with: the number of a module there, in whichever slot (`returns`)

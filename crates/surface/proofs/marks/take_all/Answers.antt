@@ -1,10 +1,9 @@
 use mathlib.Core.Path.{◌≡◌, refl, sym, ◌∙◌}
 use mathlib.Core.Bool.{false≢true}
-use Prim.Native.Nat.{◌+◌, ◌≤◌, ◌<◌, ◌-◌}
+use Prim.Native.Nat.{◌+◌, ◌<◌}
 use native.Mathlib.Omega.{arith}
 use lib.ListN.{length, get_or}
-use Rattle.surface.specs.Slots.{Under}
-use Rattle.surface.proofs.MarkLaws.{Reached, take_next, take_last, take_all}
+use Rattle.surface.proofs.MarkLaws.{take_next, take_last, take_all}
 use Rattle.surface.proofs.marks.take_all.Goals as goal
 use Rattle.surface.proofs.marks.take_all.Goals.{After-m-1}
 

@@ -1,10 +1,8 @@
-use mathlib.Core.Path.{◌≡◌, refl, sym, ◌∙◌}
-use mathlib.Core.Bool.{false≢true}
-use Prim.Native.Nat.{◌+◌, ◌≤◌, ◌<◌, ◌-◌}
-use native.Mathlib.Omega.{arith}
-use lib.ListN.{length, get_or}
+use mathlib.Core.Path.{◌≡◌}
+use Prim.Native.Nat.{◌≤◌, ◌-◌}
+use lib.ListN.{length}
 use Rattle.surface.specs.Slots.{Under}
-use Rattle.surface.proofs.MarkLaws.{Reached, take_next, take_last, take_all}
+use Rattle.surface.proofs.MarkLaws.{Reached}
 use Rattle.surface.proofs.marks.take_all.Given as goal
 
 abbrev pub invariant-loop-k : goal.invariant-loop-k

@@ -1,6 +1,5 @@
 use mathlib.Core.Path.{sym, ◌∙◌}
 use native.Mathlib.Omega.{arith}
-use borrow.Author.Rules.{rules}
 use Rattle.meaning.proofs.Stands.{Sound, sound_told}
 use Rattle.surface.proofs.SlotLaws.{falls_unsound}
 use Rattle.surface.proofs.MarkLaws.{slot_falls, take_alike, take_on, take-under, take-shared, take_more}

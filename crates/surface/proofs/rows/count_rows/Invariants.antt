@@ -1,11 +1,6 @@
-use mathlib.Core.Path.{◌≡◌, ◌∙◌, subst}
-use Prim.Native.Nat.{◌+◌, ◌*◌, ◌≤◌, ◌-◌}
-use native.Mathlib.Nat.{mul-le-mul_right, add-mul}
-use native.Mathlib.Omega.{arith}
-use lib.IntN.{pos}
-use lib.ListN.{get_or}
-use Rattle.surface.specs.Rows.{RowWritten, counted_on, CountedTo}
-use Rattle.surface.proofs.RowLaws.{row_end, above_few, counted_first, counted_since, counted_next}
+use mathlib.Core.Path.{◌≡◌}
+use Prim.Native.Nat.{◌*◌, ◌≤◌, ◌-◌}
+use Rattle.surface.specs.Rows.{CountedTo}
 use Rattle.surface.proofs.rows.count_rows.Given as goal
 
 abbrev pub invariant-loop-y : goal.invariant-loop-y

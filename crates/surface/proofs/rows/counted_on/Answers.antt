@@ -4,7 +4,6 @@ use lib.IntN.{pos, ◌+ℤ◌}
 use mir.Syntax.{w16}
 use mir.Val.{to_z, of_z}
 use mir.ValLaws.{to_z-of_z}
-use borrow.Author.Rules.{rules}
 use Rattle.cells.specs.Weight.{taken_z, count_of}
 use Rattle.surface.specs.Rows.{counted_on}
 use Rattle.surface.proofs.RowLaws.{few_more, one_more}

@@ -1,14 +1,8 @@
-use mathlib.Core.Path.{◌≡◌, ap, ◌∙◌, subst}
 use mathlib.Core.List.{List}
-use Prim.Native.Nat.{ℕ, ◌+◌, ◌≤◌, ◌-◌}
-use native.Mathlib.Omega.{arith}
+use Prim.Native.Nat.{ℕ, ◌≤◌, ◌-◌}
 use lib.IntN.{ℤ, pos}
-use lib.ListN.{get_or, set}
-use mir.Syntax.{w16}
-use mir.Val.{to_z, of_z}
-use mir.ValLaws.{to_z-of_z}
+use lib.ListN.{get_or}
 use Rattle.surface.specs.Rows.{RowWritten, counted_on}
-use Rattle.surface.proofs.RowLaws.{row_none, row_more}
 use Rattle.surface.proofs.rows.first_row.Given as goal
 
 abbrev pub item : List ℤ → ℕ → ℤ

@@ -1,8 +1,7 @@
 use mathlib.Core.Path.{◌≡◌, refl, sym, ap₂, ◌∙◌, subst}
-use mathlib.Core.List.{List}
-use Prim.Native.Nat.{ℕ, ◌+◌, ◌≤◌, ◌-◌}
+use Prim.Native.Nat.{◌+◌, ◌≤◌, ◌-◌}
 use native.Mathlib.Omega.{arith}
-use lib.IntN.{ℤ, pos}
+use lib.IntN.{pos}
 use lib.ListN.{length, get_or}
 use mir.Syntax.{w16}
 use mir.Val.{to_z, of_z}

@@ -1,15 +1,8 @@
-use mathlib.Core.Path.{◌≡◌, refl, sym, ap₂, ◌∙◌, subst}
 use mathlib.Core.List.{List}
 use Prim.Native.Nat.{ℕ, ◌+◌, ◌≤◌, ◌-◌}
-use native.Mathlib.Omega.{arith}
 use lib.IntN.{ℤ, pos}
-use lib.ListN.{length, get_or}
-use mir.Syntax.{w16}
-use mir.Val.{to_z, of_z}
-use mir.ValLaws.{to_z-of_z}
-use Rattle.cells.specs.Weight.{count_of}
+use lib.ListN.{get_or}
 use Rattle.surface.specs.Rows.{RowWritten, counted_on}
-use Rattle.surface.proofs.RowLaws.{row_none, row_more}
 use Rattle.surface.proofs.rows.next_row.Given as goal
 
 abbrev pub item : List ℤ → ℕ → ℕ → ℕ → ℤ

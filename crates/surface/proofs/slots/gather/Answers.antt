@@ -1,7 +1,7 @@
 use mathlib.Core.Path.{◌≡◌, refl, sym, ap, ◌∙◌, subst}
 use mathlib.Core.Bool.{not}
 use mathlib.Core.List.{List}
-use Prim.Native.Nat.{ℕ, ◌≤◌, ◌<◌, ◌-◌}
+use Prim.Native.Nat.{ℕ, ◌≤◌, ◌<◌}
 use native.Mathlib.Omega.{arith}
 use lib.ListN.{length, length-set}
 use Rattle.rules.specs.Surface.{used_slot, slots}
@@ -35,12 +35,12 @@ loop-i-preserved c =
       omega arith,
       l.invariant.1,
       elim c.if-not-slot_free.branch [
-        then-not-slot_free w ↦ ap length w.used-is ∙ length-set l.used l.k l.i ∙ l.invariant.2
+        | then-not-slot_free w ↦ ap length w.used-is ∙ length-set l.used l.k l.i ∙ l.invariant.2
         | else-not-slot_free w ↦ ap length w.used-is ∙ l.invariant.2
       ],
       elim c.if-not-slot_free.branch [
-        then-not-slot_free w ↦
-          gather_hit t l.used l.i l.k l.invariant.3 (ap not (sym c.slot_free.ensures ∙ w.if-not-slot_free.true)) (room (goal.at.loop-i-preserved c).In-loop-i) _ _ w.used-is w.k-is
+        | then-not-slot_free w ↦
+            gather_hit t l.used l.i l.k l.invariant.3 (ap not (sym c.slot_free.ensures ∙ w.if-not-slot_free.true)) (room (goal.at.loop-i-preserved c).In-loop-i) _ _ w.used-is w.k-is
         | else-not-slot_free w ↦ gather_miss t l.used l.i l.k l.invariant.3 (ap not (sym c.slot_free.ensures ∙ w.if-not-slot_free.false)) _ _ w.used-is w.k-is
       ],
     )

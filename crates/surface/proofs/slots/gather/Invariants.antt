@@ -1,14 +1,8 @@
-use mathlib.Core.Path.{◌≡◌, refl, sym, ap, ◌∙◌, subst}
-use mathlib.Core.Bool.{not}
-use mathlib.Core.Logic.{⊎_elim}
-use Prim.Native.Nat.{◌≤◌, ◌<◌, ◌-◌}
-use native.Mathlib.Omega.{arith}
-use borrow.Author.Tests.{not-true, not-false}
-use lib.ListN.{length, length-set}
-use Rattle.rules.specs.Surface.{used_slot, slots}
-use Rattle.rules.proofs.Tests.{count_le}
+use mathlib.Core.Path.{◌≡◌}
+use Prim.Native.Nat.{◌≤◌, ◌-◌}
+use lib.ListN.{length}
+use Rattle.rules.specs.Surface.{slots}
 use Rattle.surface.specs.Slots.{Gathered}
-use Rattle.surface.proofs.SlotLaws.{gather_none, gather_hit, gather_miss}
 use Rattle.surface.proofs.slots.gather.Given as goal
 
 abbrev pub invariant-loop-i : goal.invariant-loop-i

@@ -4,7 +4,6 @@ use borrow.Author.Tests.{ne_eqb}
 use lib.Dec.{eqb}
 use lib.ListN.{get_or}
 use Rattle.rules.proofs.Tests.{none_any}
-use borrow.Author.Rules.{rules}
 use Rattle.surface.proofs.slots.known.Goals as goal
 
 pub returns-then-top-wide : goal.returns-then-top-wide

@@ -1,5 +1,4 @@
 use mathlib.Core.Path.{◌≡◌, refl, sym, ap, ◌∙◌}
-use Prim.Native.Nat.{◌≤◌, ◌-◌}
 use native.Mathlib.Omega.{arith}
 use lib.Dec.{eqb}
 use lib.ListN.{get_or}
@@ -17,7 +16,7 @@ pub loop-k-preserved : goal.loop-k-preserved
 loop-k-preserved c = let l = c.loop-k in let a = c.args in (
   omega arith,
   elim c.if-ids-k.branch [
-    then-ids-k w ↦ w.found-is ∙ sym (any_hit l.k (λ j. eqb (get_or a.ids.now j 0) a.id) (eq-eqb _ _ w.if-ids-k.true))
+    | then-ids-k w ↦ w.found-is ∙ sym (any_hit l.k (λ j. eqb (get_or a.ids.now j 0) a.id) (eq-eqb _ _ w.if-ids-k.true))
     | else-ids-k w ↦ w.found-is ∙ l.invariant.1 ∙ sym (any_miss l.k (λ j. eqb (get_or a.ids.now j 0) a.id) (ne_eqb _ _ w.if-ids-k.false))
   ],
 )

@@ -1,12 +1,8 @@
-use mathlib.Core.Path.{◌≡◌, refl, sym, ap, ◌∙◌}
-use mathlib.Core.Logic.{⊎_elim}
+use mathlib.Core.Path.{◌≡◌}
 use Prim.Native.Nat.{◌≤◌, ◌-◌}
-use native.Mathlib.Omega.{arith}
 use lib.Dec.{eqb}
 use lib.ListN.{get_or}
-use borrow.Author.Tests.{eq-eqb, ne_eqb}
 use Rattle.rules.specs.Tests.{any}
-use Rattle.surface.proofs.SlotLaws.{any_hit, any_miss}
 use Rattle.surface.proofs.slots.seen.Given as goal
 
 abbrev pub invariant-loop-k : goal.invariant-loop-k

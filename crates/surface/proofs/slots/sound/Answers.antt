@@ -1,7 +1,6 @@
 use mathlib.Core.Path.{sym}
 use Prim.Native.Nat.{◌+◌, ◌*◌, ◌<◌}
 use native.Mathlib.Omega.{arith}
-use borrow.Author.Rules.{rules}
 use Rattle.meaning.proofs.Stands.{told_sound}
 use Rattle.surface.proofs.SlotLaws.{kind_spare, spare_kind, read_rect, unsound}
 use Rattle.surface.proofs.slots.sound.Goals as goal
