@@ -17,7 +17,7 @@ SIGNATURE = re.compile(r"^(\s*)((?:(?:abbrev|unfoldable|pub|record|data|ghost|co
 TOKEN = re.compile(r"[A-Za-z_][\w'\u2032]*(?:-[A-Za-z0-9_][\w'\u2032]*)*")
 CAMEL = re.compile(r"(?<=[a-z0-9])([A-Z]+)")
 # functions of std that a lemma's name may join with a dash
-STD = {"length", "get_or", "take", "drop", "set", "sets", "map", "cond", "suc", "pred", "filter", "append"}
+STD = {"length", "get_or"}
 WORDS = {"getD": "get_or"}
 # names of a `let` and of `as` in a `ghost use`
 LOCAL = {"byRulePlace": "by_rule_place", "costOf": "cost_of", "pinnedAt": "pinned_at", "strayIn": "stray_in", "tooShort": "too_short"}
@@ -42,7 +42,7 @@ def declared():
             continue
         for line in open(p, encoding="utf-8"):
             m = SIGNATURE.match(code_of(line, p))
-            if m and len(m.group(1)) <= 4:
+            if m and len(m.group(1)) <= 16:
                 every.add(m.group(3))
                 if "/specs/" in p:
                     definitions.add(m.group(3))

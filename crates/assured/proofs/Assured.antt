@@ -359,11 +359,11 @@ pub set_as_pin : (W H : ℕ) (c c' : RunCall W H) → NotRefused c → NotRefuse
 set_as_pin W H = A.answer_set_as_pin
 
 -- an accepted set puts its block where it says, into the lowest free slot, of kind 1; what place, pin and exchange put in is of kind 0
-pub set-stands : (W H : ℕ) (c : RunCall W H) → NotRefused c → (k : ℕ) → k < requests c.block → code_in (answered c k) ≡ 0 → is_set (asked c k) ≡ true →
+pub set_stands : (W H : ℕ) (c : RunCall W H) → NotRefused c → (k : ℕ) → k < requests c.block → code_in (answered c k) ≡ 0 → is_set (asked c k) ≡ true →
     let t = (up_to c k).table in
     let q = asked c k in
     (place_in (answered c k) ≡ pinned q) × LowestFree t (lowest_free t) × ((up_to c (suc k)).table ≡ with_record t (lowest_free t) (record_of (id_low q) (id_high q) (pinned q) 1))
-set-stands W H = A.answer_set_stands
+set_stands W H = A.answer_set_stands
 
 pub others_stand : (W H : ℕ) (c : RunCall W H) → NotRefused c → (k : ℕ) → k < requests c.block → code_in (answered c k) ≡ 0 → is_remove (asked c k) ≡ false → is_set (asked c k) ≡ false →
     Placed (up_to c (suc k)).table (id_asked (asked c k)) (place_in (answered c k)) 0

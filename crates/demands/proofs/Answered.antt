@@ -38,7 +38,7 @@ use Rattle.demands.proofs.Refusals as R
 use Rattle.demands.proofs.Refusals.{StandsAs, stands_as}
 use Rattle.demands.proofs.Told.{put_has}
 use Rattle.demands.proofs.Hard.{hard_used, used_occupied, written_soft, hard_step, change_clear}
-use Rattle.demands.proofs.Blocks.{answers_at, framed-after}
+use Rattle.demands.proofs.Blocks.{answers_at, framed_after}
 use Rattle.demands.proofs.Chains.{call_stands, call_answers, each_stands}
 
 -- the code in answer k is byte 8·k of the answers
@@ -249,7 +249,7 @@ module _ {W H : ℕ} (c : RunCall W H) (e : NotRefused c) (k : ℕ) (l : k < req
 
     pub answer_frame : OneFramed W H q r (up_to c k) (up_to c (suc k))
     answer_frame =
-        record { slot = i; framed = framed-after (step_of W H) W H c.block (weights_in c.lent) c.lent.table (rules_step W H) (call_stands c e) k i r accepted_at.1 }
+        record { slot = i; framed = framed_after (step_of W H) W H c.block (weights_in c.lent) c.lent.table (rules_step W H) (call_stands c e) k i r accepted_at.1 }
 
 -- A SET IS ANSWERED AS THE PIN WITH THE SAME FIELDS, on the same table
 pub answer_set_as_pin : {W H : ℕ} (c c' : RunCall W H) (e : NotRefused c) (e' : NotRefused c') (k k' : ℕ) → k < requests c.block → k' < requests c'.block →

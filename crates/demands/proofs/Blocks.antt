@@ -125,20 +125,20 @@ module _ (f : List ℕ → List ℕ → Step) (W H : ℕ) where
       stands_after = after_by_stands f W H ok b (started s t) d
 
       -- from a table without modules: THE TABLE HOLDS EXACTLY THE MODULES OF THE HISTORY
-      pub told-after : ((i : ℕ) → free_slot t i ≡ true) → (n k : ℕ) → k ≤ n → Told (history b (at n).answers k) (at k).table
+      pub told_after : ((i : ℕ) → free_slot t i ≡ true) → (n k : ℕ) → k ≤ n → Told (history b (at n).answers k) (at k).table
       unfolding history after_by next_by
-      told-after free n zero l = told_none t free
-      told-after free n (suc k) l =
+      told_after free n zero l = told_none t free
+      told_after free n (suc k) l =
           subst (λ x. Told (noted (request b k) x (history b (at n).answers k)) (at (suc k)).table) (sym (answers_at n k (omega arith)))
-          (told_step W H (request b k) (at k) (history b (at n).answers k) (stands_after k) (told-after free n k (omega arith)) (f (at k).table (request b k)) (ok (at k).table (request b k)))
+          (told_step W H (request b k) (at k) (history b (at n).answers k) (stands_after k) (told_after free n k (omega arith)) (f (at k).table (request b k)) (ok (at k).table (request b k)))
 
       -- AND EVERY WEIGHT IS THE ONE WORKED OUT AFRESH FROM THEM
-      pub afresh-after : ((i : ℕ) → free_slot t i ≡ true) → (n k : ℕ) → k ≤ n → (x y : ℕ) → x < W → y < H → cell W (at k).weights x y ≡ history_weight (history b (at n).answers k) x y
-      afresh-after free n k l = cell_history (history b (at n).answers k) (at k).table (told-after free n k l) W H (at k).weights (stands_after k)
+      pub afresh_after : ((i : ℕ) → free_slot t i ≡ true) → (n k : ℕ) → k ≤ n → (x y : ℕ) → x < W → y < H → cell W (at k).weights x y ≡ history_weight (history b (at n).answers k) x y
+      afresh_after free n k l = cell_history (history b (at n).answers k) (at k).table (told_after free n k l) W H (at k).weights (stands_after k)
 
       -- AN ACCEPTED ONE HAS ITS FRAME
-      pub framed-after : (k i : ℕ) (r : Rect) → f (at k).table (request b k) ≡ Done i r → Framed W H (request b k) i r (at k) (at (suc k))
+      pub framed_after : (k i : ℕ) (r : Rect) → f (at k).table (request b k) ≡ Done i r → Framed W H (request b k) i r (at k) (at (suc k))
       unfolding after_by next_by
-      framed-after k i r e =
+      framed_after k i r e =
           rw e (frame W H (request b k) (at k) i r (stands_after k)
           (subst (λ x. StepOrRefusal x (step_of W H (at k).table (request b k))) e (ok (at k).table (request b k))))

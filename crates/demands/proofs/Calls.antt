@@ -175,28 +175,28 @@ module _ (W H : ℕ) (l : LentSurface) where
 
     -- none of 1 to 6 applies
     module _ (e : code_of_result r ≡ 0) where
-      run-right : (first (run_ahead bad W H s t q room) ≡ 0) × (stands W H s t ≡ true)
+      run_right : (first (run_ahead bad W H s t q room) ≡ 0) × (stands W H s t ≡ true)
       unfolding run_lines NoneApplies
-      run-right =
+      run_right =
           let k = zero_of run_call e in
           ((first_parts (run_ahead bad W H s t q room) _ (unfold above in refl) k).0, not-false _ (none_applies (run_lines bad W H s t q room) (unfold above in refl) k).1.1.1.1.1.0)
 
-      pub run-block : GoodBlock q room
-      run-block = good_block bad W H (length t) q room run-right.0
+      pub run_block : GoodBlock q room
+      run_block = good_block bad W H (length t) q room run_right.0
 
       pub run_long : length l.weights ≡ 2 * (W * H)
-      run_long = long (sizes_none bad W H (length t) _ run-right.0)
+      run_long = long (sizes_none bad W H (length t) _ run_right.0)
 
-      pub run-stands : Standing W H s t
-      run-stands = surface (sizes_none bad W H (length t) _ run-right.0) run-right.1
+      pub run_stands : Standing W H s t
+      run_stands = surface (sizes_none bad W H (length t) _ run_right.0) run_right.1
 
       -- WHAT THE CALL LEAVES, ANSWERS AND COUNTS is what its last request leaves
       abbrev end : State
       end = after W H q (started s t) (requests q)
 
-      pub run-left : l' ≡ lent (bytes_of end.weights) end.table
+      pub run_left : l' ≡ lent (bytes_of end.weights) end.table
       unfolding host_run run_with
-      run-left = p.left ∙ does (λ c d. left_by c (run_out c d).weights (run_out c d).table) (run_code bad W H s t q room) (sym run_code_lem ∙ e)
+      run_left = p.left ∙ does (λ c d. left_by c (run_out c d).weights (run_out c d).table) (run_code bad W H s t q room) (sym run_code_lem ∙ e)
 
       pub run_answers : a' ≡ end.answers
       unfolding host_run run_with
@@ -206,7 +206,7 @@ module _ (W H : ℕ) (l : LentSurface) where
       run_result_lem = done_of run_call e
 
       pub run_counts : (first_of_result r ≡ end.accepted) × (second_of_result r ≡ 0)
-      run_counts = counts_of run_call e (omega (arith, accepted_few W H q s t (requests q), run-block.few)) (omega arith)
+      run_counts = counts_of run_call e (omega (arith, accepted_few W H q s t (requests q), run_block.few)) (omega arith)
 
   -- ---- list
 
@@ -233,20 +233,20 @@ module _ (W H : ℕ) (l : LentSurface) where
     )
 
     module _ (e : code_of_result r ≡ 0) where
-      pub list-stands : Standing W H s t
+      pub list_stands : Standing W H s t
       unfolding list_lines NoneApplies
-      list-stands =
+      list_stands =
           let k = zero_of list_call e in
           surface (sizes_none bad W H (length t) _ k) (not-false _ (none_applies (list_lines bad W H s t room) (unfold above in refl) k).1.1.1.0)
 
-      pub list-room : room' ≡ room_after W H t room
+      pub list_room_lem : room' ≡ room_after W H t room
       unfolding host_list list_with
-      list-room = p.written ∙ does (λ c d. (list_out c d).room) (list_code bad W H s t room) (sym list_code_lem ∙ e)
+      list_room_lem = p.written ∙ does (λ c d. (list_out c d).room) (list_code bad W H s t room) (sym list_code_lem ∙ e)
 
-      pub list-result : r ≡ result_of 0 (length (entries_of W H t)) (corners W H t)
-      list-result = done_of list_call e
+      pub list_result_lem : r ≡ result_of 0 (length (entries_of W H t)) (corners W H t)
+      list_result_lem = done_of list_call e
 
       pub list_counts : (first_of_result r ≡ length (entries_of W H t)) × (second_of_result r ≡ corners W H t)
       list_counts =
-          let a : W * H ≤ 4096 = area W H list-stands.sides in
+          let a : W * H ≤ 4096 = area W H list_stands.sides in
           counts_of list_call e (omega (arith, T.list_few (occupied t) W H)) (omega (arith, T.corners_few W H t))

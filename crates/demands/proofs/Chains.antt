@@ -24,9 +24,9 @@ use Rattle.demands.specs.Told.{Told}
 use Rattle.demands.specs.Chain.{RunCall, NotRefused, up_to, joined, Chain, ChainOver}
 use Rattle.demands.specs.Chain.Chain.{cleared, block}
 use Rattle.demands.proofs.Stands.{cleared_stands, cleared_free}
-use Rattle.demands.proofs.Blocks.{requests_both, after_right, after_behind, answers_long, told-after, afresh-after}
+use Rattle.demands.proofs.Blocks.{requests_both, after_right, after_behind, answers_long, told_after, afresh_after}
 use Rattle.demands.proofs.Hard.{hard_after, stays_has}
-use Rattle.demands.proofs.Calls.{clear_code_lem, clear_leaves, run_code_lem, run-block, run-stands, run-left, run_answers, run_counts}
+use Rattle.demands.proofs.Calls.{clear_code_lem, clear_leaves, run_code_lem, run_block, run_stands, run_left, run_answers, run_counts}
 
 state_is : {w v : List ℤ} {t u : List ℕ} {a b : List ℕ} {m n : ℕ} → w ≡ v → t ≡ u → a ≡ b → m ≡ n →
     ◌≡◌ {A = State} (record { weights = w; table = t; answers = a; accepted = m }) (record { weights = v; table = u; answers = b; accepted = n })
@@ -39,17 +39,17 @@ module _ {W H : ℕ} (c : RunCall W H) (e : NotRefused c) where
   end = up_to c (requests c.block)
 
   pub call_stands : Standing W H (weights_in c.lent) c.lent.table
-  call_stands = run-stands W H c.lent c.block c.room c.contract e
+  call_stands = run_stands W H c.lent c.block c.room c.contract e
 
   pub each_stands : (k : ℕ) → Standing W H (up_to c k).weights (up_to c k).table
   each_stands = after_stands W H c.block (started (weights_in c.lent) c.lent.table) call_stands
 
   pub call_whole : length c.block ≡ 8 * requests c.block
-  call_whole = (run-block W H c.lent c.block c.room c.contract e).whole
+  call_whole = (run_block W H c.lent c.block c.room c.contract e).whole
 
   -- WHAT IT LEAVES is what its last request leaves, as bytes
   pub call_left : c.left ≡ lent (bytes_of end.weights) end.table
-  call_left = run-left W H c.lent c.block c.room c.contract e
+  call_left = run_left W H c.lent c.block c.room c.contract e
 
   pub call_answers : c.answers ≡ end.answers
   call_answers = run_answers W H c.lent c.block c.room c.contract e
@@ -125,13 +125,13 @@ module _ (W H : ℕ) (l₀ : LentSurface) where
     told_at k h =
         let c = came_to z in
         subst (λ u. Told (history asked u k) (after W H asked start k).table) (ap (λ (v : State). v.answers) c.state)
-        (told-after (step_of W H) W H asked (cleared_weights W H) (cleared_table l₀.table) (rules_step W H) c.stands (cleared_free l₀.table) (requests asked) k h)
+        (told_after (step_of W H) W H asked (cleared_weights W H) (cleared_table l₀.table) (rules_step W H) c.stands (cleared_free l₀.table) (requests asked) k h)
 
     afresh_at : (k : ℕ) → k ≤ requests asked → (x y : ℕ) → x < W → y < H → cell W (after W H asked start k).weights x y ≡ history_weight (history asked a k) x y
     afresh_at k h x y hx hy =
         let c = came_to z in
         subst (λ u. cell W (after W H asked start k).weights x y ≡ history_weight (history asked u k) x y) (ap (λ (v : State). v.answers) c.state)
-        (afresh-after (step_of W H) W H asked (cleared_weights W H) (cleared_table l₀.table) (rules_step W H) c.stands (cleared_free l₀.table) (requests asked) k h x y hx hy)
+        (afresh_after (step_of W H) W H asked (cleared_weights W H) (cleared_table l₀.table) (rules_step W H) c.stands (cleared_free l₀.table) (requests asked) k h x y hx hy)
 
     pub chain_told : Told (history asked a (requests asked)) l.table
     chain_told = subst (Told (history asked a (requests asked))) (ap (λ (v : State). v.table) (came_to z).state) (told_at (requests asked) (omega arith))

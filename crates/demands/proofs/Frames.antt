@@ -18,7 +18,7 @@ use Rattle.meaning.proofs.Splits.{by_test, by_less}
 use Rattle.meaning.specs.Change.Change.{puts, takes, swaps}
 use Rattle.meaning.specs.Change.{Spared, StepOrRefusal, Change}
 use Rattle.demands.specs.Frame.{Reached, bare, MayChange, Framed}
-use Rattle.meaning.proofs.Tables.{sets-low, sets-high}
+use Rattle.meaning.proofs.Tables.{sets_low, sets_high}
 use Rattle.meaning.specs.Change.Spared.{aside, higher, past}
 use Rattle.meaning.proofs.Changes.{put_frame, take_frame}
 use Rattle.demands.specs.Frame.MayChange.{of_module, of_old}
@@ -49,7 +49,7 @@ module _ (W H : ℕ) (q : List ℕ) (a : State) (i : ℕ) (r : Rect) (d : StateS
     slot = l;
     long = length-sets t (8 * i) (record_after q r);
     bytes = λ k o.
-        ⊎_elim (sets-low 0 (record_after q r) t (8 * i) k) (λ (hi : 8 * i + 8 ≤ k). sets-high 0 (record_after q r) t (8 * i) k (omega (arith, record_eight q r))) o;
+        ⊎_elim (sets_low 0 (record_after q r) t (8 * i) k) (λ (hi : 8 * i + 8 ≤ k). sets_high 0 (record_after q r) t (8 * i) k (omega (arith, record_eight q r))) o;
     weights = f;
   }
 

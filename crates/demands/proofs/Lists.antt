@@ -21,17 +21,17 @@ use Rattle.meaning.proofs.Theorems as T
 use Rattle.demands.specs.Listed.{HoldsList, bottom_in}
 use Rattle.demands.specs.Chain.{Chain}
 use Rattle.demands.proofs.Refusals.{below, first_below}
-use Rattle.demands.proofs.Calls.{check_code_lem, list_code_lem, list_refused_lem, list-stands, list-room, list-result, list_counts}
+use Rattle.demands.proofs.Calls.{check_code_lem, list_code_lem, list_refused_lem, list_stands, list_room_lem, list_result_lem, list_counts}
 use Rattle.demands.proofs.Chains.{standing_sizes, chain_stands, chain_long}
 
 pub holds_list : (W H : ℕ) (l : LentSurface) (room : List ℕ) {r : ℕ} {room' : List ℕ} → HostListedBy W H l room r room' → code_of_result r ≡ 0 → HoldsList W H l room r room'
 holds_list W H l room p e = record {
-  stands = list-stands W H l room p e;
+  stands = list_stands W H l room p e;
   list = entries_of W H l.table;
   exact = T.list_exact (occupied l.table) W H;
   order = T.list_in_order (occupied l.table) W H;
-  written = list-room W H l room p e;
-  result = list-result W H l room p e;
+  written = list_room_lem W H l room p e;
+  result = list_result_lem W H l room p e;
   entries = (list_counts W H l room p e).0;
   corners = (list_counts W H l room p e).1;
 }
@@ -74,7 +74,7 @@ module _ (W H : ℕ) (l : LentSurface) (room : List ℕ) {r : ℕ} {room' : List
   bottom_at : code_of_result r ≡ 0 → (k : ℕ) → k < length list → bottom_in room' k ≡ (get_or list k none).y + (get_or list k none).h - 1
   bottom_at e k h =
       let rest = drop (8 * length list) room in
-      ap (λ u. bottom_in u k) (list-room W H l room p e) ∙ ap₂ (λ y h. y + h - 1) (record_byte list rest none k 1 h (omega arith)) (record_byte list rest none k 3 h (omega arith))
+      ap (λ u. bottom_in u k) (list_room_lem W H l room p e) ∙ ap₂ (λ y h. y + h - 1) (record_byte list rest none k 1 h (omega arith)) (record_byte list rest none k 3 h (omega arith))
 
   pub listed_row_bound : (y : ℕ) → count (first_of_result r) (λ k. eqb (bottom_in room' k) y) ≤ W
   listed_row_bound y =

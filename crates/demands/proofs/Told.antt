@@ -67,7 +67,7 @@ module _ (W H : ℕ) (s : List ℤ) (t : List ℕ) (i low high : ℕ) (r : Rect)
 
   pub told_put : (h : List Module) → Told h t → Told (new ∷ h) more
   unfolding Ordered id_placed
-  told_put h d = record { exact = λ m. (there m, back m); differ = (fresh-id, d.differ) }
+  told_put h d = record { exact = λ m. (there m, back m); differ = (fresh_id, d.differ) }
     where
       there : (m : Module) → Memᴰ m (new ∷ h) → HasModule more m
       there m k =
@@ -85,8 +85,8 @@ module _ (W H : ℕ) (s : List ℤ) (t : List ℕ) (i low high : ℕ) (r : Rect)
           Memᴰ.head (λ j. record { slot = q j; id = e j; place = f j; kind = g j }))
           (λ ne. Memᴰ.tail ((d.exact m).1 (has_alike (alike_back (put_more W H s t i low high r kind p).alike) m ne w)))
 
-      fresh-id : (m : Module) → Memᴰ m h → low + 256 * high ≡ m.id → ⊥
-      fresh-id m k e =
+      fresh_id : (m : Module) → Memᴰ m h → low + 256 * high ≡ m.id → ⊥
+      fresh_id m k e =
           let w = (d.exact m).0 k in
           true≢false (sym (and_both (ap not w.used) (eq-eqb (id_of t m.slot) (low + 256 * high) (w.id ∙ sym e)))
           ∙ any_none (slots t) (has_id t (low + 256 * high)) p.new m.slot w.low)

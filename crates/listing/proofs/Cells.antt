@@ -119,11 +119,11 @@ module _ (W H : ℕ) (s : List ℤ) (t : List ℕ) (S : Standing W H s t) (x y :
     -- the walk skips by the number: it is the width that remains
     width_is : width_of (cell W s x y) ≡ r.x + r.w - x
     unfolding number
-    width_is = ap width_of (is ∙ weight_number t x y e) ∙ width-neg (number i r x) (number_at_lem t x y e)
+    width_is = ap width_of (is ∙ weight_number t x y e) ∙ width_neg (number i r x) (number_at_lem t x y e)
       where
-        width-neg : (n : ℕ) → 1 ≤ n → width_of (neg_ℤ (pos n)) ≡ n
-        width-neg zero h = absurd (omega arith)
-        width-neg (suc n) h = refl
+        width_neg : (n : ℕ) → 1 ≤ n → width_of (neg_ℤ (pos n)) ≡ n
+        width_neg zero h = absurd (omega arith)
+        width_neg (suc n) h = refl
 
     along : (k : ℕ) → x ≤ k → k < r.x + r.w → occupied t k y ≡ true
     unfolding occupied holds covers

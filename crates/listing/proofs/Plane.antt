@@ -175,8 +175,8 @@ module _ (occ : ℕ → ℕ → Bool) (W H : ℕ) where
 
     -- b is empty and contains the entry's rectangle; its bottom row is d'
     module _ (b : Rect) (m : Empty occ W H b) (n : Inside (entry_rect d e) b) (d' : ℕ) (q : b.y + b.h ≡ suc d') where
-      same-bottom : d' ≡ d
-      same-bottom =
+      same_bottom : d' ≡ d
+      same_bottom =
           ⊎_elim
           (λ (p : d < d').
           let c = i.held in
@@ -186,14 +186,14 @@ module _ (occ : ℕ → ℕ → Bool) (W H : ℕ) where
           (lt_or_le d d')
 
       bottom : b.y + b.h ≡ suc d
-      bottom = q ∙ ap suc same-bottom
+      bottom = q ∙ ap suc same_bottom
 
       -- its columns are as high as it is
       column : (c : ℕ) → b.x ≤ c → c < b.x + b.w → b.h ≤ height_of occ W d c
       column c p r = rw (height_in occ W d c (omega (arith, m.columns))) (runs b d bottom m c p r)
 
-      same-height : b.h ≡ e.high
-      same-height =
+      same_height : b.h ≡ e.high
+      same_height =
           let c = i.height.met in
           omega (
             arith,
@@ -209,21 +209,21 @@ module _ (occ : ℕ → ℕ → Bool) (W H : ℕ) where
           ⊎_elim
           (λ (p : b.x < e.left).
           let g = column (e.left - 1) (omega arith) (omega (arith, n.right, i.order)) in
-          absurd (⊎_elim (λ (z : e.left ≡ 0). omega arith) (λ (z : height_of occ W d (e.left - 1) < e.high). omega (arith, same-height, g)) i.left_end))
+          absurd (⊎_elim (λ (z : e.left ≡ 0). omega arith) (λ (z : height_of occ W d (e.left - 1) < e.high). omega (arith, same_height, g)) i.left_end))
           (λ (p : e.left ≤ b.x). omega (arith, n.left))
           (lt_or_le b.x e.left)
 
-      same-right : b.x + b.w ≡ suc e.right
-      same-right =
+      same_right : b.x + b.w ≡ suc e.right
+      same_right =
           ⊎_elim
           (λ (p : suc e.right < b.x + b.w).
           let g = column (e.right + 1) (omega (arith, n.left, i.order)) (omega arith) in
-          absurd (⊎_elim (λ (z : e.right + 1 ≡ W). omega (arith, m.columns)) (λ (z : height_of occ W d (e.right + 1) < e.high). omega (arith, same-height, g)) i.right_end))
+          absurd (⊎_elim (λ (z : e.right + 1 ≡ W). omega (arith, m.columns)) (λ (z : height_of occ W d (e.right + 1) < e.high). omega (arith, same_height, g)) i.right_end))
           (λ (p : b.x + b.w ≤ suc e.right). omega (arith, n.right, i.order))
           (lt_or_le (suc e.right) (b.x + b.w))
 
       same : b ≡ entry_rect d e
-      same = rect_eq b (entry_rect d e) same_left (omega (arith, same-bottom, same-height, from_top)) (omega (arith, same_left, same-right)) same-height
+      same = rect_eq b (entry_rect d e) same_left (omega (arith, same_bottom, same_height, from_top)) (omega (arith, same_left, same_right)) same_height
 
     -- AN ENTRY OF A ROW IS A MAXIMAL RECTANGLE
     pub entry_maximal : Maximal occ W H (entry_rect d e)

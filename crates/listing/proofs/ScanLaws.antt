@@ -28,10 +28,10 @@ module _ (t : List ℕ) (i : ℕ) where
   other_marks y v n = rw (ne_eqb (rect_of t i).y (suc y) n, and-false)
 
   -- a used slot with a row above its module
-  pub set-marks : (l : List ℕ) (h r : ℕ) → free_slot t i ≡ false → r ≡ (rect_of t i).y → (r ≡ 0 → ⊥) → r ≤ h → h ≤ length l →
+  pub set_marks : (l : List ℕ) (h r : ℕ) → free_slot t i ≡ false → r ≡ (rect_of t i).y → (r ≡ 0 → ⊥) → r ≤ h → h ≤ length l →
       (y : ℕ) → y < h → get_or (set l (r - 1) 1) y 0 ≡ cond (top_below t y i) 1 (get_or l y 0)
-  set-marks l h zero e s n p q y k = absurd (n refl)
-  set-marks l h (suc r) e s n p q y k =
+  set_marks l h zero e s n p q y k = absurd (n refl)
+  set_marks l h (suc r) e s n p q y k =
       let at : suc r - 1 ≡ r = omega arith in
       elim (ℕ_discrete y r) [
         | yes z ↦ rw (at, e, eq-eqb (rect_of t i).y (suc y) (omega arith), ← z) (get_or-set_same l y 1 0 (omega arith))

@@ -18,7 +18,7 @@ use Rattle.rules.proofs.Tests.{and_left, and_right, and_both, fails, not_both, e
 use Rattle.meaning.proofs.Splits.{by_less, by_same}
 use Rattle.meaning.proofs.Rectangles.{cells_empty_at, cells_empty_yes}
 use Rattle.meaning.proofs.Weights.{covers_within}
-use Rattle.meaning.proofs.Tables.{free_byte, bytes_free, Alike, alike_back, alike_slots, alike_free, alike_id, alike_holds, record_byte, record_alike, sets-low, sets-high}
+use Rattle.meaning.proofs.Tables.{free_byte, bytes_free, Alike, alike_back, alike_slots, alike_free, alike_id, alike_holds, record_byte, record_alike, sets_low, sets_high}
 use Rattle.meaning.specs.Change.{On, Placing, Taking, Spared}
 use Rattle.meaning.proofs.Stands.{Sound, sound_told, told_sound, slots_told, same_id, same_told, apart_told, SoundTable, standing_fresh, standing_table, fresh_standing, written_sound, ids_told}
 use Rattle.meaning.proofs.More.{OneMore, holds_here, occupied_more, occupied_less, frame}
@@ -43,12 +43,12 @@ record_over t i a b ea eb f =
     let n = length-sets t (8 * i) a in
     let u = with_record t i a in
     ext_get_or 0 (with_record u i b) (with_record t i b) (length-sets u (8 * i) b ∙ n ∙ sym (length-sets t (8 * i) b)) (λ k l.
-    by_less k (8 * i) (λ h. sets-low 0 b u (8 * i) k h ∙ sets-low 0 a t (8 * i) k h ∙ sym (sets-low 0 b t (8 * i) k h)) (λ g.
+    by_less k (8 * i) (λ h. sets_low 0 b u (8 * i) k h ∙ sets_low 0 a t (8 * i) k h ∙ sym (sets_low 0 b t (8 * i) k h)) (λ g.
     by_less k (8 * i + 8)
     (λ h.
     let e : k ≡ 8 * i + (k - 8 * i) = omega arith in
     ap (λ n. get_or (with_record u i b) n 0) e ∙ record_byte u i b eb (omega arith) (k - 8 * i) (omega arith) ∙ sym (ap (λ n. get_or (with_record t i b) n 0) e ∙ record_byte t i b eb f (k - 8 * i) (omega arith)))
-    (λ h. sets-high 0 b u (8 * i) k (omega arith) ∙ sets-high 0 a t (8 * i) k (omega arith) ∙ sym (sets-high 0 b t (8 * i) k (omega arith)))))
+    (λ h. sets_high 0 b u (8 * i) k (omega arith) ∙ sets_high 0 a t (8 * i) k (omega arith) ∙ sym (sets_high 0 b t (8 * i) k (omega arith)))))
 
 -- ---- a module is put in
 
@@ -175,12 +175,12 @@ module _ (W H : ℕ) (s : List ℤ) (t : List ℕ) (i : ℕ) (p : Taking W H s t
       (λ x y j l ne. ap (λ c. c && holds taken x y j) (none_there x y))
 
   -- THE SURFACE STANDS WITH THE MODULE TAKEN OUT
-  pub take-stands : Standing W H (fresh W H taken) taken
-  take-stands = fresh_standing W H taken left_table
+  pub take_stands : Standing W H (fresh W H taken) taken
+  take_stands = fresh_standing W H taken left_table
 
   -- A CELL IS THEN OCCUPIED IF IT WAS AND THE MODULE HAD IT NOT
-  take-occupied : (x y : ℕ) → occupied taken x y ≡ (occupied t x y && not (covers (rect_of t i) x y))
-  take-occupied x y = occupied_less taken t i (rect_of t i) taken_less x y
+  take_occupied : (x y : ℕ) → occupied taken x y ≡ (occupied t x y && not (covers (rect_of t i) x y))
+  take_occupied x y = occupied_less taken t i (rect_of t i) taken_less x y
 
   -- ONLY WEIGHTS IN THE MODULE'S REACH HAVE CHANGED
   pub take_frame : (c q : ℕ) → c < W → q < H → Spared (rect_of t i) taken c q → cell W (fresh W H taken) c q ≡ cell W s c q
@@ -203,7 +203,7 @@ module _ (W H : ℕ) (s : List ℤ) (t : List ℕ) (i : ℕ) (p : Taking W H s t
 
   -- what was empty with it is empty without it
   still_empty : (r : Rect) → cells_empty (occupied t) r ≡ true → cells_empty (occupied taken) r ≡ true
-  still_empty r e = empty_of (occupied taken) r (λ x y k. take-occupied x y ∙ ap (λ b. b && not (covers (rect_of t i) x y)) (empty_at (occupied t) r e x y k))
+  still_empty r e = empty_of (occupied taken) r (λ x y k. take_occupied x y ∙ ap (λ b. b && not (covers (rect_of t i) x y)) (empty_at (occupied t) r e x y k))
 
   -- A MODULE UNDER ITS ID MAY THEN BE PUT INTO ITS SLOT, wherever all cells were empty with the old one there
   pub exchange_placing : (low high : ℕ) (r : Rect) (kind : ℕ) → kind ≤ 1 → low + 256 * high ≡ id_of t i → On W H r → cells_empty (occupied t) r ≡ true →
@@ -211,7 +211,7 @@ module _ (W H : ℕ) (s : List ℤ) (t : List ℕ) (i : ℕ) (p : Taking W H s t
   exchange_placing low high r kind k id place free =
       let o = taken_less in
       record {
-        standing = take-stands;
+        standing = take_stands;
         slot = o.slot;
         unused = o.unused;
         place = place;

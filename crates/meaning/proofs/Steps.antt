@@ -28,7 +28,7 @@ use Rattle.meaning.specs.Change.{StepOrRefusal, Stricter, Newcomer, OldModule, C
 use Rattle.meaning.proofs.First.{none_applies, first_parts, first_above}
 use Rattle.meaning.proofs.Tables.{slot_placed, slot_has, lowest_some, lowest_is}
 use Rattle.rules.specs.Blocks.{with_step, State, request, after, after_by, next_by}
-use Rattle.meaning.proofs.Changes.{put_stands, taken_sound, take-stands, exchange_placing, exchange_table}
+use Rattle.meaning.proofs.Changes.{put_stands, taken_sound, take_stands, exchange_placing, exchange_table}
 
 -- ---- lines none of which applies
 
@@ -342,7 +342,7 @@ step_stands W H q a (Done i r) k z =
     λ u e. subst (λ v. Standing W H (fresh W H v) v) (sym e) in
     elim (change W H s t q z i r (accepted_as i r _ k)) [
       | puts n l p ↦ by _ (put_leaves W H s t q i r n.no_remove) (put_stands W H s t i (id_low q) (id_high q) r (kind_asked q) p)
-      | takes o x p m ↦ by _ (take_leaves W H s t q i r o) (take-stands W H s t i p.taking)
+      | takes o x p m ↦ by _ (take_leaves W H s t q i r o) (take_stands W H s t i p.taking)
       | swaps o x p v n ↦ by _ (swap_leaves W H s t q i r o p.taking) (put_stands W H _ _ i (id_low q) (id_high q) r (kind_asked q) n)
     ]
 

@@ -27,19 +27,19 @@ bytes_free t i h = every_yes 8 (λ k. eqb (byte t i k) 0) (λ k l. eq-eqb (byte 
 -- ---- a run of stores
 
 module _ {A : Type 0} (d : A) where
-  pub sets-low : (vs l : List A) (i j : ℕ) → j < i → get_or (sets l i vs) j d ≡ get_or l j d
-  sets-low [] l i j h = refl
-  sets-low (a ∷ vs) l i j h = sets-low vs (set l i a) (suc i) j (omega arith) ∙ get_or-set_other l i j a d (λ e. omega arith)
+  pub sets_low : (vs l : List A) (i j : ℕ) → j < i → get_or (sets l i vs) j d ≡ get_or l j d
+  sets_low [] l i j h = refl
+  sets_low (a ∷ vs) l i j h = sets_low vs (set l i a) (suc i) j (omega arith) ∙ get_or-set_other l i j a d (λ e. omega arith)
 
-  pub sets-high : (vs l : List A) (i j : ℕ) → i + length vs ≤ j → get_or (sets l i vs) j d ≡ get_or l j d
-  sets-high [] l i j h = refl
-  sets-high (a ∷ vs) l i j h = sets-high vs (set l i a) (suc i) j (omega arith) ∙ get_or-set_other l i j a d (λ e. omega arith)
+  pub sets_high : (vs l : List A) (i j : ℕ) → i + length vs ≤ j → get_or (sets l i vs) j d ≡ get_or l j d
+  sets_high [] l i j h = refl
+  sets_high (a ∷ vs) l i j h = sets_high vs (set l i a) (suc i) j (omega arith) ∙ get_or-set_other l i j a d (λ e. omega arith)
 
   pub sets_in : (vs l : List A) (i k : ℕ) → k < length vs → i + length vs ≤ length l → get_or (sets l i vs) (i + k) d ≡ get_or vs k d
   sets_in [] l i k h f = absurd (omega arith)
   sets_in (a ∷ vs) l i zero h f =
       ap (λ n. get_or (sets (set l i a) (suc i) vs) n d) (let q : i + 0 ≡ i = omega arith in q)
-      ∙ sets-low vs (set l i a) (suc i) i (omega arith)
+      ∙ sets_low vs (set l i a) (suc i) i (omega arith)
       ∙ get_or-set_same l i a d (omega arith)
   sets_in (a ∷ vs) l i (suc k) h f =
       ap (λ n. get_or (sets (set l i a) (suc i) vs) n d) (let q : i + suc k ≡ suc i + k = omega arith in q)
@@ -98,7 +98,7 @@ module _ (t : List ℕ) (i : ℕ) (r : List ℕ) (eight : length r ≡ 8) (fits 
       record {
         long = length-sets t (8 * i) r;
         bytes = λ j k ne l.
-            by_less j i (λ lo. sets-low 0 r t (8 * i) (8 * j + k) (omega arith)) (λ hi. sets-high 0 r t (8 * i) (8 * j + k) (omega arith));
+            by_less j i (λ lo. sets_low 0 r t (8 * i) (8 * j + k) (omega arith)) (λ hi. sets_high 0 r t (8 * i) (8 * j + k) (omega arith));
       }
 
 -- ==== slots that are looked for

@@ -167,11 +167,11 @@ module _ (W H c y n : ℕ) (s u t : List ℤ) (fits : y + n ≤ H) where
           (over_high f y n v)
           (λ r lo hi. absurd (omega arith))
           (λ r lo hi. (refl, z r lo hi))
-          (run_same f g y (λ i l. sym (over_low f y n v i l)) ∙ told-above y (omega arith) ∙ sym e)
+          (run_same f g y (λ i l. sym (over_low f y n v i l)) ∙ told_above y (omega arith) ∙ sym e)
         where
           g : ℕ → ℕ
           g = over f y n v
 
-          told-above : (p : ℕ) → p ≤ H → run g p ≡ run_above W s c p
-          told-above zero l = unfold run in refl
-          told-above (suc q) l = sym (ap count_of (h q l) ∙ count_is g q)
+          told_above : (p : ℕ) → p ≤ H → run g p ≡ run_above W s c p
+          told_above zero l = unfold run in refl
+          told_above (suc q) l = sym (ap count_of (h q l) ∙ count_is g q)

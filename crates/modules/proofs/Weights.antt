@@ -45,5 +45,5 @@ module _ (W H : ℕ) (s : List ℤ) (t : List ℕ) (i : ℕ) (p : Taking W H s t
       shallow W H (column t) s (rect_of t i).y (omega (arith, d.lines)) (subst (HoldsAll W H (column t)) (sym (standing_fresh W H s t p.standing)) (fresh_holds W H t))
 
   -- weights with the module removed are those of the table without its record
-  pub take-weights : (s' : List ℤ) (t' : List ℕ) → Removed W H (rect_of t i) s s' → t' ≡ with_record t i free_record → s' ≡ fresh W H t'
-  take-weights s' t' a e = removed_fresh W H (with_record t i free_record) t i (rect_of t i) (taken_less W H s t i p) s' p.standing.sides.wide (subst (λ l. Removed W H (rect_of t i) l s') (standing_fresh W H s t p.standing) a) ∙ ap (fresh W H) (sym e)
+  pub take_weights : (s' : List ℤ) (t' : List ℕ) → Removed W H (rect_of t i) s s' → t' ≡ with_record t i free_record → s' ≡ fresh W H t'
+  take_weights s' t' a e = removed_fresh W H (with_record t i free_record) t i (rect_of t i) (taken_less W H s t i p) s' p.standing.sides.wide (subst (λ l. Removed W H (rect_of t i) l s') (standing_fresh W H s t p.standing) a) ∙ ap (fresh W H) (sym e)

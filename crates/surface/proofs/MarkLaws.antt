@@ -291,8 +291,8 @@ module _ (W H : ℕ) (t : List ℕ) where
     used_is = not-true (free_slot t i) a.used
 
     -- no id is over the larger of its own and those before it
-    pub take-under : (r : ℕ) → top ≤ r → id ≤ r → Under (set ids n id) (n + 1) r
-    take-under r h l = below_more _ n (λ k u. omega (arith, get_or-set_other ids n k id 0 (λ z. omega arith), a.under k u)) (omega (arith, get_or-set_same ids n id 0 a.room))
+    pub take_under : (r : ℕ) → top ≤ r → id ≤ r → Under (set ids n id) (n + 1) r
+    take_under r h l = below_more _ n (λ k u. omega (arith, get_or-set_other ids n k id 0 (λ z. omega arith), a.under k u)) (omega (arith, get_or-set_same ids n id 0 a.room))
 
     pub take_alike : any n (λ k. eqb (get_or ids k 0) id) ≡ true → table_stands W H t ≡ false
     take_alike e = falls_alike W H t i a.low a.used (ap (λ c. any i (has_id t c)) (sym p) ∙ sym (a.taken.noted id) ∙ e)
@@ -305,8 +305,8 @@ module _ (W H : ℕ) (t : List ℕ) where
           let l : (r.y + r.h) * W ≤ H * W = mul-le-mul_right W (omega (arith, e, s.place.lines)) in
           (omega (arith, e, s.place.columns), omega (arith, mul_comm W H, a.taken.marked.long))
 
-      pub take-shared : untaken W m r.x r.y r.w r.h ≡ false → table_stands W H t ≡ false
-      take-shared e =
+      pub take_shared : untaken W m r.x r.y r.w r.h ≡ false → table_stands W H t ≡ false
+      take_shared e =
           falls_shared W H t (slot_shared W H t i m a.taken.marked used_is a.low s
           (ap (λ (r : Rect). untaken W m r.x r.y r.w r.h) (sym q) ∙ e))
 

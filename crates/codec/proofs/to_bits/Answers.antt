@@ -14,32 +14,32 @@ use Rattle.codec.proofs.to_bits.Goals as goal
 use Rattle.codec.proofs.to_bits.Goals.{Else-v-lt0, Start, Then-v-lt0}
 
 -- what is read back from the bits of v is v
-v-is : (s : Start) → to_z w16 (of_z w16 s.args.v) ≡ s.args.v
-v-is s = to_z-of_z w16 s.args.v s.ranges.v
+v_is : (s : Start) → to_z w16 (of_z w16 s.args.v) ≡ s.args.v
+v_is s = to_z-of_z w16 s.args.v s.ranges.v
 
-is-neg : (c : Then-v-lt0) → Neg c.args.v (negsuc 0 -ℤ to_z w16 (of_z w16 c.args.v))
-is-neg c = rw (v-is c.before) (neg c.args.v c.ranges.v (subst (λ z. lt_z z (pos 0) ≡ true) (v-is c.before) c.if-v-lt0.true))
+is_neg : (c : Then-v-lt0) → Neg c.args.v (negsuc 0 -ℤ to_z w16 (of_z w16 c.args.v))
+is_neg c = rw (v_is c.before) (neg c.args.v c.ranges.v (subst (λ z. lt_z z (pos 0) ≡ true) (v_is c.before) c.if-v-lt0.true))
 
 pub overflow_sub-result : goal.overflow_sub-result
-overflow_sub-result c = (is-neg c).range
+overflow_sub-result c = (is_neg c).range
 
-d-is : (c : Then-v-lt0) → to_z w16 (of_z w16 (negsuc 0 -ℤ to_z w16 (of_z w16 c.args.v))) ≡ negsuc 0 -ℤ to_z w16 (of_z w16 c.args.v)
-d-is c = to_z-of_z w16 _ (overflow_sub-result c)
+d_is : (c : Then-v-lt0) → to_z w16 (of_z w16 (negsuc 0 -ℤ to_z w16 (of_z w16 c.args.v))) ≡ negsuc 0 -ℤ to_z w16 (of_z w16 c.args.v)
+d_is c = to_z-of_z w16 _ (overflow_sub-result c)
 
 pub overflow_cast-result : goal.overflow_cast-result
-overflow_cast-result c = subst (λ z. T (non_neg z) × Fits w16 (nat_abs z)) (sym (d-is c)) ((is-neg c).sign, (is-neg c).fits)
+overflow_cast-result c = subst (λ z. T (non_neg z) × Fits w16 (nat_abs z)) (sym (d_is c)) ((is_neg c).sign, (is_neg c).fits)
 
 pub overflow_sub-result-then-v-lt0 : goal.overflow_sub-result-then-v-lt0
-overflow_sub-result-then-v-lt0 c = subst (λ z. nat_abs z ≤ 65535) (sym (d-is c)) (omega (arith, (is-neg c).fits))
+overflow_sub-result-then-v-lt0 c = subst (λ z. nat_abs z ≤ 65535) (sym (d_is c)) (omega (arith, (is_neg c).fits))
 
-not-below : (c : Else-v-lt0) → (T (non_neg c.args.v) × Fits w16 (nat_abs c.args.v)) × (nat_abs c.args.v ≡ bits16 c.args.v)
-not-below c = not_neg c.args.v c.ranges.v (subst (λ z. lt_z z (pos 0) ≡ false) (v-is c.before) c.if-v-lt0.false)
+not_below : (c : Else-v-lt0) → (T (non_neg c.args.v) × Fits w16 (nat_abs c.args.v)) × (nat_abs c.args.v ≡ bits16 c.args.v)
+not_below c = not_neg c.args.v c.ranges.v (subst (λ z. lt_z z (pos 0) ≡ false) (v_is c.before) c.if-v-lt0.false)
 
 pub overflow_cast-result-else-v-lt0 : goal.overflow_cast-result-else-v-lt0
-overflow_cast-result-else-v-lt0 c = subst (λ z. T (non_neg z) × Fits w16 (nat_abs z)) (sym (v-is c.before)) (not-below c).0
+overflow_cast-result-else-v-lt0 c = subst (λ z. T (non_neg z) × Fits w16 (nat_abs z)) (sym (v_is c.before)) (not_below c).0
 
 pub returns-then-v-lt0 : goal.returns-then-v-lt0
-returns-then-v-lt0 c = ap (λ z. 65535 - nat_abs z) (d-is c) ∙ (is-neg c).bits
+returns-then-v-lt0 c = ap (λ z. 65535 - nat_abs z) (d_is c) ∙ (is_neg c).bits
 
 pub returns-else-v-lt0 : goal.returns-else-v-lt0
-returns-else-v-lt0 c = ap nat_abs (v-is c.before) ∙ (not-below c).1
+returns-else-v-lt0 c = ap nat_abs (v_is c.before) ∙ (not_below c).1

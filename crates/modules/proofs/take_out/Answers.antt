@@ -1,10 +1,10 @@
--- `modules::take_out` meets its contract: the law `take-weights` at what `remove` and `put_record` promise. Assumes nothing.
+-- `modules::take_out` meets its contract: the law `take_weights` at what `remove` and `put_record` promise. Assumes nothing.
 use mathlib.Core.Path.{sym, subst}
 use native.Mathlib.Omega.{arith}
 use Rattle.meaning.specs.Change.{On}
 use Rattle.modules.specs.Walk.{Shallow, Removed}
 use Rattle.meaning.proofs.Changes.{slot_fits, taken_sound}
-use Rattle.modules.proofs.Weights.{taken_shallow, take-weights}
+use Rattle.modules.proofs.Weights.{taken_shallow, take_weights}
 use borrow.Author.Rules.{rules}
 use Rattle.modules.proofs.take_out.Goals as goal
 
@@ -26,4 +26,4 @@ put_record-requires c = record { i_in_bounds = slot_fits c.requires.standing c.r
 
 pub returns : goal.returns
 returns c =
-    let a = c.args in record { t_after = c.put_record.ensures; s_after = take-weights a.w a.h a.s.now a.t.now a.i c.requires c.remove.new.s c.put_record.new.t (subst (λ m. Removed a.w a.h m a.s.now c.remove.new.s) c.rect_at-m.ensures c.remove.ensures) c.put_record.ensures }
+    let a = c.args in record { t_after = c.put_record.ensures; s_after = take_weights a.w a.h a.s.now a.t.now a.i c.requires c.remove.new.s c.put_record.new.t (subst (λ m. Removed a.w a.h m a.s.now c.remove.new.s) c.rect_at-m.ensures c.remove.ensures) c.put_record.ensures }

@@ -30,8 +30,8 @@ bare s k e = unheld (occupied s.args.table.now) s.args.w s.args.y k s.args.h e
 low : (s : Start) (k : ℕ) → f s k ≤ 64
 low s k = omega (arith, height_low (occupied s.args.table.now) s.args.w s.args.y k, s.requires.y_lt_h.0, s.requires.standing.sides.highest)
 
-u-low : (c : At-loop-x) → c.loop-x.u ≤ 64
-u-low c = omega (arith, c.loop-x.invariant.last, before_low (f c.before.before.before.before.before.before.before.before) 64 (low c.before.before.before.before.before.before.before.before) c.loop-x.x)
+u_low : (c : At-loop-x) → c.loop-x.u ≤ 64
+u_low c = omega (arith, c.loop-x.invariant.last, before_low (f c.before.before.before.before.before.before.before.before) 64 (low c.before.before.before.before.before.before.before.before) c.loop-x.x)
 
 -- x is a column
 on : (c : In-loop-x) → c.loop-x.x < c.args.w
@@ -44,7 +44,7 @@ pub loop-x-init : goal.loop-x-init
 loop-x-init c = go_start _ _ _ _ _ _ _ _
 
 pub stays-requires : goal.stays-requires
-stays-requires c = let p = c.requires in record { standing = p.standing; y_lt_h = (p.y_lt_h.0, on c, u-low (goal.at.stays-requires c).At-loop-x) }
+stays-requires c = let p = c.requires in record { standing = p.standing; y_lt_h = (p.y_lt_h.0, on c, u_low (goal.at.stays-requires c).At-loop-x) }
 
 -- ---- it stays
 
@@ -63,7 +63,7 @@ loop-x-preserved-then-stays c =
     (open_high c.args.w c.args.table.now x c.args.y (on (goal.at.loop-x-preserved-then-stays c).In-loop-x) (not-true _ empty))
 
 pub rises-requires : goal.rises-requires
-rises-requires c = let p = c.requires in record { standing = p.standing; y_lt_h = (p.y_lt_h.0, on (goal.at.rises-requires c).In-loop-x, u-low (goal.at.rises-requires c).At-loop-x) }
+rises-requires c = let p = c.requires in record { standing = p.standing; y_lt_h = (p.y_lt_h.0, on (goal.at.rises-requires c).In-loop-x, u_low (goal.at.rises-requires c).At-loop-x) }
 
 -- ---- it rises
 

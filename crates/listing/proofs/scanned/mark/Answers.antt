@@ -3,7 +3,7 @@ use mathlib.Core.Path.{sym, ap, ◌∙◌}
 use native.Mathlib.Omega.{arith}
 use Rattle.rules.specs.declared.Rect.{Rect}
 use Rattle.listing.proofs.Cells.{positive}
-use Rattle.listing.proofs.ScanLaws.{free_marks, other_marks, set-marks}
+use Rattle.listing.proofs.ScanLaws.{free_marks, other_marks, set_marks}
 use Rattle.listing.proofs.scanned.mark.Goals as goal
 
 pub returns-then-slot_free : goal.returns-then-slot_free
@@ -31,5 +31,5 @@ pub returns : goal.returns
 returns c =
     let at-rect = c.before.before.before.before.before in
     let s = at-rect.before.before.before.before.before in
-    set-marks s.args.table.now s.args.i s.args.scans.now s.args.h at-rect.rect_at-r.result.y (sym at-rect.before.before.slot_free.ensures ∙ at-rect.before.if-slot_free.false)
+    set_marks s.args.table.now s.args.i s.args.scans.now s.args.h at-rect.rect_at-r.result.y (sym at-rect.before.before.slot_free.ensures ∙ at-rect.before.if-slot_free.false)
     (ap (λ (r : Rect). r.y) at-rect.rect_at-r.ensures) c.if-r-eq0.false c.if-h-r.false s.requires.1

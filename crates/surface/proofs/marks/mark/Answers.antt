@@ -38,12 +38,12 @@ long : (c : In-loop-i) → length c.loop-i.m ≡ length c.args.m.now
 long c = c.loop-i.invariant.2.long ∙ c.rows.invariant.2.long
 
 -- and the cell as it was
-as-was : (c : In-loop-i) →
+as_was : (c : In-loop-i) →
     let a = c.args in
     let x = a.x + c.loop-i.i in
     let y = a.y + c.rows.j in
     (cell a.w c.loop-i.m x y ≡ cell a.w c.rows.m x y) × (cell a.w c.rows.m x y ≡ cell a.w a.m.now x y)
-as-was c =
+as_was c =
     (c.loop-i.invariant.2.after _ (omega arith), c.rows.invariant.2.below _ _ (omega (arith, c.requires.0, c.loop-i-test.true)) (le_refl _))
 
 pub overflow_sub-mw : goal.overflow_sub-mw
@@ -66,7 +66,7 @@ loop-i-preserved c =
       omega (arith, c.loop-i-test.true),
       l.invariant.1,
       row_more r.m l.m _ ((a.y + r.j) * a.w + a.x) l.i _ v l.invariant.2 (omega (arith, (on (goal.at.loop-i-preserved c).In-loop-i).0, long (goal.at.loop-i-preserved c).In-loop-i)) (c.put_occupied.ensures ∙ ap (λ k. set l.m k v) q) (ap (λ n. neg_ℤ (pos n)) e),
-      below_more _ _ l.invariant.3 (ap not (ap taken_z (sym (as-was (goal.at.loop-i-preserved c).In-loop-i).0) ∙ sym c.taken_at.ensures ∙ c.if-taken_at.false)),
+      below_more _ _ l.invariant.3 (ap not (ap taken_z (sym (as_was (goal.at.loop-i-preserved c).In-loop-i).0) ∙ sym c.taken_at.ensures ∙ c.if-taken_at.false)),
     )
 
 pub rows-preserved : goal.rows-preserved
@@ -99,7 +99,7 @@ pub returns-then-taken_at : goal.returns-then-taken_at
 returns-then-taken_at c =
     let r = c.rows in
     let a = c.args in
-    let w = as-was (goal.at.returns-then-taken_at c).In-loop-i in record { value = sym (taken_one a.w a.m.now a.x a.y a.mw a.mh c.loop-i.i r.j c.loop-i-test.true c.rows-test.true (ap taken_z (sym (w.0 ∙ w.1)) ∙ sym c.taken_at.ensures ∙ c.if-taken_at.true)); marked = (λ e. absurd (false≢true e)) }
+    let w = as_was (goal.at.returns-then-taken_at c).In-loop-i in record { value = sym (taken_one a.w a.m.now a.x a.y a.mw a.mh c.loop-i.i r.j c.loop-i-test.true c.rows-test.true (ap taken_z (sym (w.0 ∙ w.1)) ∙ sym c.taken_at.ensures ∙ c.if-taken_at.true)); marked = (λ e. absurd (false≢true e)) }
 
 pub overflow_add-at : goal.overflow_add-at
 overflow_add-at c = omega (arith, on c)

@@ -30,17 +30,17 @@ take_slot-over-requires c =
     }
 
 -- the slices are as long as at entry
-ids-long : (c : After-m-1) → length c.take_slot-over.new.ids ≡ length c.args.ids.now
-ids-long c = c.take_slot-over.auto.ids ∙ c.loop-k.invariant.1
+ids_long : (c : After-m-1) → length c.take_slot-over.new.ids ≡ length c.args.ids.now
+ids_long c = c.take_slot-over.auto.ids ∙ c.loop-k.invariant.1
 
-m-long : (c : After-m-1) → length c.take_slot-over.new.m ≡ length c.args.m.now
-m-long c = c.take_slot-over.auto.m ∙ c.loop-k.invariant.2
+m_long : (c : After-m-1) → length c.take_slot-over.new.m ≡ length c.args.m.now
+m_long c = c.take_slot-over.auto.m ∙ c.loop-k.invariant.2
 
 pub shape_of-ids-then-over-eq0 : goal.shape_of-ids-then-over-eq0
-shape_of-ids-then-over-eq0 c = ids-long (goal.at.shape_of-ids-then-over-eq0 c).After-m-1
+shape_of-ids-then-over-eq0 c = ids_long (goal.at.shape_of-ids-then-over-eq0 c).After-m-1
 
 pub shape_of-m-then-over-eq0 : goal.shape_of-m-then-over-eq0
-shape_of-m-then-over-eq0 c = m-long (goal.at.shape_of-m-then-over-eq0 c).After-m-1
+shape_of-m-then-over-eq0 c = m_long (goal.at.shape_of-m-then-over-eq0 c).After-m-1
 
 pub returns-then-over-eq0 : goal.returns-then-over-eq0
 returns-then-over-eq0 c = record {
@@ -52,7 +52,7 @@ pub loop-k-preserved : goal.loop-k-preserved
 loop-k-preserved c =
     let l = c.loop-k in
     let low = c.requires.2.low l.k (omega arith) in
-    (omega arith, ids-long (goal.at.loop-k-preserved c).After-m-1, m-long (goal.at.loop-k-preserved c).After-m-1, record { at = get_or c.args.used.now l.k 0 + 1; low = omega (arith, low); taken = c.take_slot-over.ensures.more c.if-over-eq0.false }, c.take_slot-over.ensures.under c.if-over-eq0.false)
+    (omega arith, ids_long (goal.at.loop-k-preserved c).After-m-1, m_long (goal.at.loop-k-preserved c).After-m-1, record { at = get_or c.args.used.now l.k 0 + 1; low = omega (arith, low); taken = c.take_slot-over.ensures.more c.if-over-eq0.false }, c.take_slot-over.ensures.under c.if-over-eq0.false)
 
 pub shape_of-ids : goal.shape_of-ids
 shape_of-ids c = c.loop-k.invariant.1
