@@ -1,7 +1,5 @@
 -- Laws on plain values. `Lines`: bytes that must be zero, by their sum, and the lines of 11 to 17 and 23 in two parts. `StepLaws`: what each operation comes to. `Accepted`: the change of an
 -- accepted request, half by half, and what serving leaves. `Turns`: the requests of a block in turn.
--- Laws for walks by hand. `Reading`: a reader taken apart and put together. `Lent`: the three buffers that requests
--- are served on, lent again for a call. `Gone`: how far the run of a block has come.
 pub mod Lines
 pub mod StepLaws
 pub mod Accepted

@@ -1,6 +1,5 @@
 // "The block of requests is walked by a reader that holds the lent block and its place in it." A reader is the block and the offset of the next
-// request. The borrow checker covers no function over a struct that holds a reference, so these are few and thin, each proved by a walk of its MIR;
-// the work is `serve_at`'s, which takes a plain slice and a number and is covered.
+// request. The work is `serve_at`'s, which takes a plain slice and a number.
 ghost use Rattle.std.specs.Prelude.{◌≡◌, ◌+◌, ◌≤◌, ltb, length};
 ghost use Rattle.requests.specs.Steps.{Turn, ServedAt};
 
