@@ -2,7 +2,7 @@
 # definitions of `rules` must pass, all under one statement.
 BEGIN {
     print "-- Made by tests/brute/to_antt.awk from what the brute force answered; not written by hand."
-    print "use Rattle.std.specs.Prelude.{◌≡◌, refl, Bool, true, ◌&&◌, List, [], ◌∷◌, ℕ, pos, negsuc}"
+    print "use Rattle.std.specs.Prelude.{◌≡◌, refl, Bool, true, List, [], ◌∷◌, pos, negsuc}"
     print "use Rattle.rules.specs.Tests.{all}"
     print "use Rattle.compared.specs.Compare.{lent, cleared, checked, ran, listed}"
     print ""

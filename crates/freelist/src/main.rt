@@ -2,7 +2,7 @@
 // read, in pieces of any size, and the answers and the list printed.
 #![tactic(auto)]
 
-ghost use Rattle.std.specs.Prelude.{◌≡◌, ◌+◌, ◌*◌, ◌/◌, ◌≤◌, ◌<◌, length, take, IfOk};
+ghost use Rattle.std.specs.Prelude.{◌≡◌, ◌+◌, ◌*◌, ◌/◌, ◌≤◌, ◌<◌, length, take};
 ghost use Rattle.stream.specs.Records.{kept, first_kept};
 ghost use Rattle.stream.specs.Promise.{Ready, ServedAll};
 ghost use Rattle.stream.specs.Input.{SoFar};
@@ -95,14 +95,16 @@ fn last_lines<W: Write>(out: &mut W, corners: u64, entries: u64, left: u64) -> i
     Ok(())
 }
 
-// Reads behind the first `held` bytes. The result is how many there are then: as many as before where the input has ended.
-fn read_on<R: Read>(input: &mut R, q: &mut [u8], held: usize) -> io::Result<usize>
+// Reads behind the first `held` bytes. The result is how many there are then: as many as before where the input has ended. A read that fails is taken
+// for its end.
+fn read_on<R: Read>(input: &mut R, q: &mut [u8], held: usize) -> usize
     requires { held ≤ length q.old }
-    ensures count { IfOk result (λ n. (held ≤ n) × (n ≤ length q.new)) }
-    ensures held { take held q.new ≡ take held q.old }
+    ensures { (held ≤ result) × (result ≤ length q.new) × (take held q.new ≡ take held q.old) }
 {
-    let got = input.read(&mut q[held..])?;
-    Ok(held + got)
+    match input.read(&mut q[held..]) {
+        Ok(got) => held + got,
+        Err(_) => held,
+    }
 }
 
 // The whole records among the first n bytes are served.
@@ -159,7 +161,7 @@ fn run<R: Read, W: Write>(
     let mut h = start.rows;
     let mut held = 0;
     for _ in 0..u64::MAX {
-        let n = read_on(input, q, held)?;
+        let n = read_on(input, q, held);
         if n == held {
             break;
         }

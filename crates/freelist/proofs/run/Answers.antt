@@ -15,13 +15,12 @@ pub loop-preserved : goal.loop-preserved
 loop-preserved g c =
     let l = c.loop in
     let i = l.invariant in
-    let r = c.read_on in
-    let n = c.in_ok-n in
+    let r = c.read_on-n in
     let v = c.serve_piece-z in
     let y = c.carry-held in (
       v.ensures.ready,
       y.auto.q ∙ r.auto.q ∙ i.1,
       v.auto.a ∙ i.2,
       omega (arith, y.ensures.0),
-      so_far_more l.held n.n y.result l.q _ _ i.4 n.ensures.count.0 n.ensures.count.1 r.ensures.held v.ensures.holds y.ensures.0 y.ensures.1,
+      so_far_more l.held r.result y.result l.q _ _ i.4 r.ensures.0 r.ensures.1 r.ensures.2 v.ensures.holds y.ensures.0 y.ensures.1,
     )
