@@ -1,29 +1,27 @@
 -- Laws of signed weights, by cases on ℤ. Assumes nothing.
-use mathlib.Core.Path.{◌≡◌, refl, sym, ap, ◌∙◌, subst, subst⁻¹}
+use mathlib.Core.Path.{◌≡◌, refl, sym, ap, ◌∙◌, subst}
 use mathlib.Core.Bool.{Bool, true, false, not, and-true}
 use mathlib.Core.Logic.{⊎_elim}
 use mathlib.Core.List.{List}
-use Prim.Native.Nat.{ℕ, zero, suc, ◌+◌, ◌*◌, ◌<◌, ◌≤◌}
+use Prim.Native.Nat.{ℕ, ◌+◌, ◌*◌, ◌<◌, ◌≤◌}
 use native.Mathlib.Nat.{mul-le-mul_right, le-mul_of_pos_right, add-mul}
 use native.Mathlib.Numerals.{add-one}
 use native.Mathlib.Omega.{arith}
 use borrow.Author.Tests.{le-ltb, ltb-true, eqb-true, eq-eqb}
-use lib.Dec.{T, eqb}
+use lib.Dec.{eqb}
 use lib.ListN.{length, get_or}
 use lib.Seq.{ext_get_or}
-use lib.IntN.{ℤ, pos, negsuc, nat_abs, neg_ℤ, ◌-ℤ◌, +ℤ_idl}
-use lib.Signed.{lt_z, non_neg}
-use mir.Syntax.{Width, w16, w32, w64}
-use mir.Val.{to_z, of_z, SFits, Fits}
+use lib.IntN.{ℤ, pos, negsuc}
+use lib.Signed.{lt_z}
+use mir.Syntax.{Width, w16}
+use mir.Val.{to_z, of_z, SFits}
 use mir.ValLaws.{to_z-of_z}
+use Rattle.std.specs.Prelude.{MatchBool}
+use Rattle.std.specs.List.{AllWithin, HoldsAt}
 use Rattle.rules.specs.Tests.{every, eq_z}
 use Rattle.rules.specs.Surface.{cell}
 use Rattle.rules.proofs.Tests.{fails, not_both, decide, every_at, every_yes, every_no, eq_z_true, eq_z_same}
-use Rattle.cells.specs.Weight.{taken_z, count_of, width_of, untaken, same_weights}
-
--- what holds of a number holds of what the machine reads back from its bits
-pub back : (w : Width) (P : ℤ → Type 0) {z : ℤ} → SFits w z → P z → P (to_z w (of_z w z))
-back w P {z} f p = subst⁻¹ P (to_z-of_z w z f) p
+use Rattle.cells.specs.Weight.{taken_z, count_of, untaken, same_weights}
 
 -- two signed numbers are the same exactly when their bits are
 pub same_bits : (w : Width) (a b : ℤ) → SFits w a → SFits w b → eqb (of_z w a) (of_z w b) ≡ eq_z a b
@@ -40,51 +38,13 @@ pub taken_test : (z : ℤ) → lt_z z (pos 0) ≡ taken_z z
 taken_test (pos n) = le-ltb n 0 (omega arith)
 taken_test (negsuc n) = refl
 
--- not below 0
-pub count_at : (z : ℤ) → lt_z z (pos 0) ≡ false → nat_abs z ≡ count_of z
-count_at (pos n) e = refl
-count_at (negsuc n) e = absurd (subst T e tt)
-
 -- a signed test's flag, said of the number and not of what is read back from its bits
 pub plain : (w : Width) (P : ℤ → Type 0) {z : ℤ} → SFits w z → P (to_z w (of_z w z)) → P z
 plain w P {z} f p = subst P (to_z-of_z w z f) p
 
-pub count_fits : (z : ℤ) → SFits w16 z → lt_z z (pos 0) ≡ false → T (non_neg z) × Fits w64 (nat_abs z)
-count_fits (pos n) f e = (tt, record { fits = let h = f.sfits in omega arith })
-count_fits (negsuc n) f e = absurd (subst T e tt)
-
 pub count_neg : (z : ℤ) → lt_z z (pos 0) ≡ true → 0 ≡ count_of z
 count_neg (pos n) e = let h : n < 0 = ltb-true n 0 e in omega arith
 count_neg (negsuc n) e = refl
-
--- one not below 0 is its count
-pub count_is : (z : ℤ) → lt_z z (pos 0) ≡ false → z ≡ pos (count_of z)
-count_is (pos n) e = refl
-count_is (negsuc n) e = absurd (subst T e tt)
-
-pub wider : {z : ℤ} → SFits w16 z → SFits w32 z
-wider f = record { sfits = let h = f.sfits in omega arith }
-
--- the machine's negation is 0 less the number
-pub neg_is : (z : ℤ) → pos 0 -ℤ z ≡ neg_ℤ z
-neg_is z = +ℤ_idl (neg_ℤ z)
-
-pub neg_fits : (z : ℤ) → SFits w16 z → SFits w32 (neg_ℤ z)
-neg_fits (pos zero) f = record { sfits = omega arith }
-neg_fits (pos (suc n)) f = record { sfits = let h = f.sfits in omega arith }
-neg_fits (negsuc n) f = record { sfits = let h = f.sfits in omega arith }
-
-pub width_fits : (z : ℤ) → SFits w16 z → lt_z z (pos 0) ≡ true → T (non_neg (neg_ℤ z)) × Fits w64 (nat_abs (neg_ℤ z))
-width_fits (pos n) f e = let h : n < 0 = ltb-true n 0 e in absurd (omega arith)
-width_fits (negsuc n) f e = (tt, record { fits = let h = f.sfits in omega arith })
-
-pub width_at : (z : ℤ) → lt_z z (pos 0) ≡ true → nat_abs (neg_ℤ z) ≡ width_of z
-width_at (pos n) e = let h : n < 0 = ltb-true n 0 e in absurd (omega arith)
-width_at (negsuc n) e = refl
-
-pub width_none : (z : ℤ) → lt_z z (pos 0) ≡ false → 0 ≡ width_of z
-width_none (pos n) e = refl
-width_none (negsuc n) e = absurd (subst T e tt)
 
 -- a row ends before a later one starts
 pub row_before : (w r q c : ℕ) → r < q → c ≤ w → r * w + c ≤ q * w
@@ -104,9 +64,23 @@ open_at w s x y = not (taken_z (cell w s x y))
 abbrev pub open_row : ℕ → List ℤ → ℕ → ℕ → ℕ → ℕ → Bool
 open_row w s x y mw j = every mw (λ i. open_at w s (x + i) (y + j))
 
+-- a taken cell closes its row, and the rectangle
+pub taken_row : (w : ℕ) (s : List ℤ) (x y mw i j : ℕ) → i < mw → taken_z (cell w s (x + i) (y + j)) ≡ true → open_row w s x y mw j ≡ false
+taken_row w s x y mw i j hi e = every_no mw (λ i. open_at w s (x + i) (y + j)) i hi (ap not e)
+
 pub taken_one : (w : ℕ) (s : List ℤ) (x y mw mh i j : ℕ) → i < mw → j < mh → taken_z (cell w s (x + i) (y + j)) ≡ true → untaken w s x y mw mh ≡ false
 unfolding untaken
-taken_one w s x y mw mh i j hi hj e = every_no mh (open_row w s x y mw) j hj (every_no mw (λ i. open_at w s (x + i) (y + j)) i hi (ap not e))
+taken_one w s x y mw mh i j hi hj e = every_no mh (open_row w s x y mw) j hj (taken_row w s x y mw i j hi e)
+
+-- what `is_taken` says of a weight that it is handed
+pub taken_back : (z : ℤ) → SFits w16 z → true ≡ taken_z (to_z w16 (of_z w16 z)) → taken_z z ≡ true
+taken_back z f e = sym (e ∙ ap taken_z (to_z-of_z w16 z f))
+
+-- what `all` tells of a row whose n weights are f 0, f 1, ..
+pub every_from_all : (n : ℕ) (f : ℕ → ℤ) (p : ℤ → Bool) (row : List ℤ) (b : Bool) → length row ≡ n → ((k : ℕ) → k < n → get_or row k (pos 0) ≡ f k) →
+    MatchBool b (AllWithin (λ v. p v ≡ true) row 0 (length row)) ((k : ℕ) × (k < length row) × HoldsAt (λ v. p v ≡ false) row k) → b ≡ every n (λ k. p (f k))
+every_from_all n f p row true l g h = sym (every_yes n (λ k. p (f k)) (λ k b. ap p (sym (g k b)) ∙ h k (pos 0) (omega arith) (omega arith)))
+every_from_all n f p row false l g h = sym (every_no n (λ k. p (f k)) h.0 (omega (arith, h.1)) (ap p (sym (g h.0 (omega (arith, h.1)))) ∙ h.2 (pos 0)))
 
 -- ---- the same weights
 

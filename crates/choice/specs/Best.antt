@@ -1,68 +1,32 @@
 -- THE CHOICE BY RULE as one walk over the list: the best entry with room so far, as its cost and the place that it gives. W and H are the surface's
--- size, w and h the module's.
-use Rattle.std.specs.Prelude.{◌≡◌, Bool, false, cond, List, [], ◌∷◌, ℕ, ◌+◌, ◌≤◌, ltb, eqb}
-use Rattle.std.proofs.Math.Option.{Option, none, some}
-use Rattle.rules.specs.Surface.{rect}
-use Rattle.rules.specs.Requests.{fits, cost, lower_left, or_none}
+-- size, m the module that asks for a place.
+use Rattle.std.specs.Prelude.{cond, List, [], ◌∷◌, ℕ, ltb, Option, Some, None}
+use Rattle.std.proofs.Math.Option as maybe
+use Rattle.rules.specs.Requests.{fits, cost, lower_left}
 use Rattle.rules.specs.declared.Rect.{Rect}
-use Rattle.choice.specs.declared.Choice.{Choice}
-use Rattle.choice.specs.declared.Choice.TheVariants.{At, Nowhere}
 use Rattle.choice.specs.declared.Best.{Best}
-use Rattle.choice.specs.declared.Best.TheVariants.{Found, Nothing}
+use Rattle.choice.specs.declared.Wanted.{Wanted}
+use Rattle.choice.specs.Rule.{rule_number}
 
 -- what `choose` answers for the place that a rule chose
-abbrev pub choice_of : Option Rect → Choice
-choice_of none = Nowhere
-choice_of (some r) = At r
+abbrev pub choice_of : maybe.Option Rect → Option Rect
+choice_of maybe.none = None
+choice_of (maybe.some r) = Some r
 
--- ---- this paper's number and values for each case of a choice
+-- an entry with room that costs c and gives the place r
+abbrev pub found : ℕ → Rect → Option Best
+found c r = Some (record { cost = c; place = r })
 
--- code 20, "no position has all its cells empty", for nowhere; a place is not refused
-abbrev pub code_of : Choice → ℕ
-code_of Nowhere = 20
-code_of (At r) = 0
-
--- "x, y, w, h: of the new module .. A refusal has four zeros there."
-abbrev pub values_of : Choice → Rect
-values_of Nowhere = rect 0 0 0 0
-values_of (At r) = r
-
--- c is the choice for the place o that the rule chose: refused where it chose none
-abbrev pub code_for : Option Rect → ℕ
-code_for none = 20
-code_for (some r) = 0
-
-pub record Chosen (o : Option Rect) (c : Choice) : Type 0 where
-  pub code : code_of c ≡ code_for o
-  pub values : values_of c ≡ or_none o
-
--- the place of the best so far
-abbrev pub place_in : Best → Choice
-place_in Nothing = Nowhere
-place_in (Found c r) = At r
-
--- an entry e with room that costs c: "Ties go to the earlier entry."
-abbrev pub less_of : Best → ℕ → Rect → Best
-less_of Nothing c r = Found c r
-less_of (Found d a) c r = cond (ltb c d) (Found c r) (Found d a)
+-- it is held against the best so far: "Ties go to the earlier entry."
+abbrev pub less_of : Option Best → ℕ → Rect → Option Best
+less_of None c r = found c r
+less_of (Some b) c r = cond (ltb c b.cost) (found c r) (Some b)
 
 -- one entry more: "Among list entries with room for the module"
-unfoldable pub better : ℕ → ℕ → ℕ → ℕ → ℕ → Best → Rect → Best
-better W H rule w h b e = cond (fits w h e) (less_of b (cost W H w h rule e) (lower_left w h e)) b
+unfoldable pub better : ℕ → ℕ → Wanted → Option Best → Rect → Option Best
+better W H m b e = cond (fits m.w m.h e) (less_of b (cost W H m.w m.h (rule_number m.rule) e) (lower_left m.w m.h e)) b
 
 -- the entries of a list in turn
-unfoldable pub best_of : ℕ → ℕ → ℕ → ℕ → ℕ → Best → List Rect → Best
-best_of W H rule w h b [] = b
-best_of W H rule w h b (e ∷ l) = best_of W H rule w h (better W H rule w h b e) l
-
--- an entry that costs nothing is the choice whatever follows: none costs less, and "Ties go to the earlier entry."
-abbrev pub unbeaten : Best → Bool
-unbeaten Nothing = false
-unbeaten (Found c r) = eqb c 0
-
--- an entry on a surface of at most 64 columns and rows: what its cost asks
-pub record Entered (W H : ℕ) (e : Rect) : Type 0 where
-  pub widest : W ≤ 64
-  pub highest : H ≤ 64
-  pub columns : e.x + e.w ≤ 64
-  pub lines : e.y + e.h ≤ H
+unfoldable pub best_of : ℕ → ℕ → Wanted → Option Best → List Rect → Option Best
+best_of W H m b [] = b
+best_of W H m b (e ∷ l) = best_of W H m (better W H m b e) l

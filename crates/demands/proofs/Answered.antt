@@ -18,8 +18,7 @@ use Rattle.rules.specs.Place.{pin_lines, pin_step}
 use Rattle.rules.specs.Blocks.{requests, request, next_by, after_by}
 use Rattle.rules.specs.Host.{weights_in}
 use Rattle.rules.specs.declared.Rect.{Rect}
-use Rattle.rules.specs.declared.Step.{Step}
-use Rattle.rules.specs.declared.Step.TheVariants.{Refused, Done}
+use Rattle.rules.specs.Refusals.{Step, Refused, Done}
 use Rattle.rules.proofs.Tests.{or_right, not_both, least_is}
 use Rattle.meaning.specs.Change.{Change, OldModule}
 use Rattle.meaning.specs.Change.Change.{puts, takes, swaps}

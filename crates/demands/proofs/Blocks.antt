@@ -14,8 +14,7 @@ use Rattle.rules.specs.Surface.{free_slot, cell}
 use Rattle.rules.specs.Requests.{step_of, answer_of, accepted_one}
 use Rattle.rules.specs.Blocks.{State, started, next_by, requests, request, after_by}
 use Rattle.rules.specs.declared.Rect.{Rect}
-use Rattle.rules.specs.declared.Step.{Step}
-use Rattle.rules.specs.declared.Step.TheVariants.{Done}
+use Rattle.rules.specs.Refusals.{Step, Done}
 use Rattle.meaning.specs.Change.{StepOrRefusal, Stricter}
 use Rattle.meaning.proofs.Steps.{StateStands, after_by_stands}
 use Rattle.demands.specs.History.{noted, history, history_weight}

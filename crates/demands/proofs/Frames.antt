@@ -12,7 +12,7 @@ use Rattle.rules.specs.Surface.{slots, rect_of, record_of, free_record, with_rec
 use Rattle.rules.specs.Requests.{id_low, id_high, kind_asked, id_asked, slot_of, step_of, record_after, needs_old}
 use Rattle.rules.specs.Blocks.{State, with_step}
 use Rattle.rules.specs.declared.Rect.{Rect}
-use Rattle.rules.specs.declared.Step.TheVariants.{Done}
+use Rattle.rules.specs.Refusals.{Done}
 use Rattle.rules.proofs.Tests.{eq_z_true, eq_z_same, not_both, fails}
 use Rattle.meaning.proofs.Splits.{by_test, by_less}
 use Rattle.meaning.specs.Change.Change.{puts, takes, swaps}

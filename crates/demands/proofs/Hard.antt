@@ -14,8 +14,7 @@ use Rattle.rules.specs.Empties.{cells_empty}
 use Rattle.rules.specs.Requests.{is_remove, record_after, step_of, table_after}
 use Rattle.rules.specs.Blocks.{State, request, next_by, after_by}
 use Rattle.rules.specs.declared.Rect.{Rect}
-use Rattle.rules.specs.declared.Step.{Step}
-use Rattle.rules.specs.declared.Step.TheVariants.{Refused, Done}
+use Rattle.rules.specs.Refusals.{Step, Refused, Done}
 use Rattle.rules.proofs.Tests.{and_both, not_both, fails, any_yes}
 use Rattle.meaning.specs.Change.{StepOrRefusal, Stricter, Change}
 use Rattle.meaning.specs.Change.Change.{puts, takes, swaps}

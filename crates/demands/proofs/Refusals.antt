@@ -19,8 +19,7 @@ use Rattle.meaning.specs.Numbers.{above, has_code, differ}
 use Rattle.rules.specs.Requests.{operation, has_id, id_placed, rule_of, id_asked, wide, high, byte6, byte7, is_place, is_exchange, by_rule, at_place, makes_new, pinned, slot_of, some_free, lowest_free, position, rule_place, any_cell_taken, sound_lines, place_lines, judging, step_of, code_of, needs_old, is_remove}
 use Rattle.rules.specs.Blocks.{State, with_step}
 use Rattle.rules.specs.declared.Rect.{Rect}
-use Rattle.rules.specs.declared.Step.{Step}
-use Rattle.rules.specs.declared.Step.TheVariants.{Refused, Done}
+use Rattle.rules.specs.Refusals.{Step, Refused, Done}
 use Rattle.rules.proofs.Tests.{and_left, and_right, and_both, or_right, or_neither, not_both, fails, any_at, any_yes}
 use Rattle.meaning.proofs.Splits.{split, by_test, by_or, by_same, by_cons}
 use Rattle.meaning.proofs.Choice.{rule_place_empty}

@@ -14,8 +14,7 @@ use Rattle.rules.specs.Empties.{Ordered}
 use Rattle.rules.specs.Requests.{operation, id_low, id_high, id_asked, is_place, is_pin, is_set, at_place, makes_new, kind_asked, has_id, id_placed, lowest_free, step_of, answer_of, table_after}
 use Rattle.rules.specs.Blocks.{State}
 use Rattle.rules.specs.declared.Rect.{Rect}
-use Rattle.rules.specs.declared.Step.{Step}
-use Rattle.rules.specs.declared.Step.TheVariants.{Refused, Done}
+use Rattle.rules.specs.Refusals.{Step, Refused, Done}
 use Rattle.rules.proofs.Tests.{and_both, not_both, fails, any_none, least_is, keep_mem, mem_keep, all_at, all_yes}
 use Rattle.meaning.specs.Change.{Placing, Taking, StepOrRefusal, Change}
 use Rattle.meaning.specs.Change.Change.{puts, takes, swaps}

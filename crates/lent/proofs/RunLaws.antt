@@ -17,9 +17,15 @@ use Rattle.meaning.proofs.Codes.{sizes_none, GoodBlock, good_block}
 use Rattle.meaning.proofs.Counts.{none_accepted}
 use Rattle.meaning.proofs.Bytes.{bytes_back}
 use Rattle.meaning.proofs.Outcomes.{run_refused, run_done, run_refused_is, run_fallen_is, run_done_is}
+use Rattle.std.specs.Prelude.{Err}
+use Rattle.rules.specs.Refusals.{number_of}
+use Rattle.rules.specs.declared.Refusal.{Refusal}
+use Rattle.surface.specs.Examine.{Tells}
+use Rattle.rules.proofs.Refusals.{coded}
 use Rattle.surface.specs.Sizes.{block_lines}
 use Rattle.requests.specs.Steps.{Ran as RanTo}
 use Rattle.lent.specs.Lent.{Right, RightBlock}
+use Rattle.lent.proofs.Laws.{fallen_code}
 
 module _ (W H : ℕ) (b t q a : List ℕ) where
   abbrev bad : Bool
@@ -43,21 +49,24 @@ module _ (W H : ℕ) (b t q a : List ℕ) where
     answers = w ∙ ap (λ (z : Ran). z.answers) (sym e);
   }
 
-  pub ran_refused : (r : ℕ) → r ≡ first ahead → (r ≡ 0 → ⊥) → HostRanBy W H (lent b t) q a r (lent b t) a
-  ran_refused r e ne =
+  pub ran_refused : (f : Refusal) → number_of f ≡ first ahead → HostRanBy W H (lent b t) q a (result_of (number_of f) 0 0) (lent b t) a
+  ran_refused f e =
+      let r = number_of f in
+      let ne : r ≡ 0 → ⊥ = λ z. omega (arith, coded f, z) in
       let z : eqb r 0 ≡ false = ne_eqb r 0 ne in
-      ran_by (run_refused bad W H s t q a r) (run_refused_is bad W H s t q a r e ne) r b t a (let k : r ≡ result_of r 0 0 = omega arith in k) (rw z) refl refl
+      ran_by (run_refused bad W H s t q a r) (run_refused_is bad W H s t q a r e ne) _ b t a refl (rw z) refl refl
 
-  pub ran_fallen : first ahead ≡ 0 → stands W H s t ≡ false → HostRanBy W H (lent b t) q a 6 (lent b t) a
-  ran_fallen e f = ran_by (run_refused bad W H s t q a 6) (run_fallen_is bad W H s t q a e f) 6 b t a refl refl refl refl
+  pub ran_fallen : first ahead ≡ 0 → (f : Refusal) → Tells (stands W H s t) t (Err f) → HostRanBy W H (lent b t) q a (result_of (number_of f) 0 0) (lent b t) a
+  ran_fallen e f x =
+      let k = fallen_code _ t f x in
+      ran_by (run_refused bad W H s t q a 6) (run_fallen_is bad W H s t q a e k.0) _ b t a (ap (λ n. result_of n 0 0) k.1) refl refl refl
 
   abbrev end : State
   end = after W H q (started s t) (requests q)
 
-  pub ran_done : first ahead ≡ 0 → stands W H s t ≡ true → (n : ℕ) (b' : List ℕ) (s' : List ℤ) (t' a' : List ℕ) → RanTo end s' t' a' n → b' ≡ bytes_of end.weights → HostRanBy W H (lent b t) q a (65536 * n) (lent b' t') a'
+  pub ran_done : first ahead ≡ 0 → stands W H s t ≡ true → (n : ℕ) (b' : List ℕ) (s' : List ℤ) (t' a' : List ℕ) → RanTo end s' t' a' n → b' ≡ bytes_of end.weights → HostRanBy W H (lent b t) q a (result_of 0 n 0) (lent b' t') a'
   ran_done e f n b' s' t' a' z p =
-      let k : 65536 * n ≡ result_of 0 end.accepted 0 = omega (arith, z.accepted) in
-      ran_by (run_done bad W H s t q a) (run_done_is bad W H s t q a e f) (65536 * n) b' t' a' k p z.table z.answers
+      ran_by (run_done bad W H s t q a) (run_done_is bad W H s t q a e f) _ b' t' a' (ap (λ k. result_of 0 k 0) z.accepted) p z.table z.answers
 
   -- where no request was accepted, the bytes hold what is left as they are
   pub unwritten : ((k : ℕ) → get_or b k 0 < 256) → length b ≡ 2 * (W * H) → end.accepted ≡ 0 → b ≡ bytes_of end.weights

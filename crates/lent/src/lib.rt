@@ -3,6 +3,8 @@
 #![tactic(auto)]
 
 pub mod examine; // "The surface is examined": 6, or the weights and how many slots are used
+mod counts; // the two counts of a result
+mod told; // a result as the number that the host is told
 pub mod check;
 pub mod clear;
 pub mod list;

@@ -1,31 +1,44 @@
 // The list, on lent bytes.
-ghost use Rattle.std.specs.Prelude.{◌≡◌, ◌*◌, replicate, pos};
-ghost use Rattle.lent.specs.Lent.{Right};
+ghost use Rattle.lent.specs.Told.{told_number};
 ghost use Rattle.rules.specs.Host.{HostListedBy, lent};
 
+use super::counts::Counts;
 use super::examine::examine;
-use surface::examine::Examined;
-use surface::sizes::size_code;
+use super::told::told;
+use cells::standing::Surface;
+use listing::list::list_standing;
+use rules::Refusal;
+use surface::sizes::check_sizes;
 
-fn listed_on(w: usize, h: usize, b: &[u8], t: &[u8], room: &mut [u8], s: &mut [i16]) -> u64
-    requires { Right w h (lent b.now t.now) × (s.old ≡ replicate (w * h) (pos 1)) }
-    ensures { HostListedBy w h (lent b.now t.now) room.old result room.new }
+fn listed(
+    w: usize,
+    h: usize,
+    weights: &[u8],
+    table: &[u8],
+    room: &mut [u8],
+) -> Result<Counts, Refusal>
+    ensures { HostListedBy w h (lent weights.now table.now) room.old (told_number result) room.new }
 {
-    let Examined::Stands(_) = examine(w, h, b, t, s) else {
-        return 6;
+    check_sizes(w, h, weights.len(), 2, table.len())?;
+    let mut ones = [1i16; 4096];
+    let s = &mut ones[..w * h];
+    examine(w, h, weights, table, s)?;
+    let surface = Surface {
+        w,
+        h,
+        weights: s,
+        table,
     };
-    listing::list::list_standing(w, h, s, t, room)
+    let counts = list_standing(&surface, room)?;
+    Ok(Counts {
+        first: counts.entries,
+        second: counts.corners,
+    })
 }
 
 // list: the maximal empty rectangles, in order; counts entries and corners. Codes 1, 2, 3, 6, 7.
 pub fn list(w: usize, h: usize, weights: &[u8], table: &[u8], room: &mut [u8]) -> u64
     ensures { HostListedBy w h (lent weights.now table.now) room.old result room.new }
 {
-    let code = size_code(w, h, weights.len(), 2, table.len());
-    if code != 0 {
-        return code;
-    }
-    let n = w * h;
-    let mut s = [1i16; 4096];
-    listed_on(w, h, weights, table, room, &mut s[..n])
+    told(listed(w, h, weights, table, room))
 }

@@ -1,33 +1,44 @@
 // Running a block, on lent bytes.
-ghost use Rattle.std.specs.Prelude.{◌≡◌, ◌*◌, replicate, pos};
-ghost use Rattle.lent.specs.Lent.{RightBlock};
+ghost use Rattle.lent.specs.Told.{told_number};
 ghost use Rattle.rules.specs.Host.{HostRanBy, lent};
 
+use super::counts::Counts;
 use super::examine::examine;
+use super::told::told;
 use requests::run::run_on;
-use surface::examine::Examined;
-use surface::sizes::block_code;
+use rules::Refusal;
+use surface::sizes::check_block;
 
-fn ran_on(
+fn ran(
     w: usize,
     h: usize,
-    b: &mut [u8],
-    t: &mut [u8],
-    q: &[u8],
+    weights: &mut [u8],
+    table: &mut [u8],
+    requests: &[u8],
     answers: &mut [u8],
-    s: &mut [i16],
-) -> u64
-    requires { RightBlock w h (lent b.old t.old) q.now answers.old × (s.old ≡ replicate (w * h) (pos 1)) }
-    ensures { HostRanBy w h (lent b.old t.old) q.now answers.old result (lent b.new t.new) answers.new }
+) -> Result<Counts, Refusal>
+    ensures { HostRanBy w h (lent weights.old table.old) requests.now answers.old (told_number result) (lent weights.new table.new) answers.new }
 {
-    let Examined::Stands(_) = examine(w, h, b, t, s) else {
-        return 6;
-    };
-    let n = run_on(w, h, s, t, q, answers);
-    if 0 < n {
-        codec::encode(s, b);
+    check_block(
+        w,
+        h,
+        weights.len(),
+        2,
+        table.len(),
+        requests.len(),
+        answers.len(),
+    )?;
+    let mut ones = [1i16; 4096];
+    let s = &mut ones[..w * h];
+    examine(w, h, weights, table, s)?;
+    let accepted = run_on(w, h, s, table, requests, answers);
+    if 0 < accepted {
+        codec::encode(s, weights);
     }
-    65536 * (n as u64)
+    Ok(Counts {
+        first: accepted,
+        second: 0,
+    })
 }
 
 // run a block: each request in turn on what the one before left; counts the requests accepted. Codes 1 to 6.
@@ -41,19 +52,5 @@ pub fn run(
 ) -> u64
     ensures { HostRanBy w h (lent weights.old table.old) requests.now answers.old result (lent weights.new table.new) answers.new }
 {
-    let code = block_code(
-        w,
-        h,
-        weights.len(),
-        2,
-        table.len(),
-        requests.len(),
-        answers.len(),
-    );
-    if code != 0 {
-        return code;
-    }
-    let n = w * h;
-    let mut s = [1i16; 4096];
-    ran_on(w, h, weights, table, requests, answers, &mut s[..n])
+    told(ran(w, h, weights, table, requests, answers))
 }

@@ -3,28 +3,34 @@ use mathlib.Core.Path.{◌≡◌, refl, sym, ap, ◌∙◌}
 use mathlib.Core.Bool.{Bool, true, false, not, cond, ◌&&◌}
 use mathlib.Core.Logic.{⊎_elim}
 use mathlib.Core.List.{List}
-use Prim.Native.Nat.{ℕ, zero, suc, ◌+◌, ◌-◌, ◌*◌, ◌≤◌, ◌<◌}
-use native.Mathlib.Nat.{le_refl, mul_comm, mul-le-mul}
+use Prim.Native.Nat.{ℕ, zero, suc, ◌+◌, ◌-◌, ◌^◌, ◌≤◌, ◌<◌}
+use native.Mathlib.Nat.{le_refl}
 use native.Mathlib.Omega.{arith}
-use lib.Arith.{digits_lt}
 use lib.Dec.{ltb, eqb}
 use lib.IntN.{ℤ, pos, negsuc, neg_ℤ}
-use lib.ListN.{length}
-use lib.Signed.{lt_z}
+use lib.Signed.{lt_z, mag}
 use borrow.Author.Tests.{lt-ltb, le-ltb, le-leb, eqb-false, not-true}
+use mir.Syntax.{w16}
+use mir.Val.{hbits, to_z, of_z}
+use mir.ValLaws.{to_z-of_z}
+use Rattle.cells.specs.Weight.{width_of}
 use Rattle.rules.specs.Tests.{eq_z}
 use Rattle.rules.specs.Surface.{covers, slots, rect_of, holds, occupied, holder, upwards, number, weight, cell, Standing}
 use Rattle.rules.specs.declared.Rect.{Rect}
 use Rattle.rules.proofs.Tests.{and_both, four_and, any_yes, decide, lt_or_le}
-use Rattle.meaning.proofs.Weights.{upwards_le, upwards_taken, upwards_pos, Within, covers_within, holds_covers, holds_used, holder_low, holder_holds, number_at_lem, weight_number, weight_occupied, weight_empty, stands_cell, stands_slots}
+use Rattle.meaning.proofs.Weights.{upwards_le, upwards_taken, upwards_pos, Within, covers_within, holds_covers, holds_used, holder_low, holder_holds, weight_number, weight_occupied, weight_empty, stands_cell, stands_slots}
 use Rattle.meaning.proofs.Stands.{sound_told, slots_told}
-use Rattle.cells.specs.Weight.{taken_z, count_of, width_of}
+use Rattle.std.specs.Int.{int_max}
 use Rattle.listing.specs.Listed.{height_of, support, Strides}
 
 -- not 0 is more than 0
 pub positive : (v : ℕ) → (v ≡ 0 → ⊥) → 0 < v
 positive zero n = absurd (n refl)
 positive (suc v) n = omega arith
+
+-- a number whose bits are read back is the number
+pub read_back : {z a : ℤ} → mag z < 2 ^ hbits w16 → z ≡ a → to_z w16 (of_z w16 z) ≡ a
+read_back {z} f e = to_z-of_z w16 z (record { sfits = f }) ∙ e
 
 -- ---- heights and support of a row
 
@@ -43,14 +49,14 @@ module _ (occ : ℕ → ℕ → Bool) (W y x : ℕ) where
   pub height_low : height_of occ W y x ≤ suc y
   height_low = ⊎_elim (λ (p : x < W). omega (arith, height_in p, upwards_le occ x y)) (λ (p : W ≤ x). omega (arith, height_past p)) (lt_or_le x W)
 
-  -- no height, no support
-  pub unheld : (H : ℕ) → height_of occ W y x ≡ 0 → support occ W H y x ≡ false
-  unfolding support
-  unheld H e = rw (e, le-ltb 0 0 (le_refl 0))
-
   pub held_by : (H : ℕ) → (height_of occ W y x ≡ 0 → ⊥) → support occ W H y x ≡ cond (ltb (suc y) H) (occ x (suc y)) true
   unfolding support
   held_by H n = rw (lt-ltb 0 (height_of occ W y x) (positive (height_of occ W y x) n))
+
+-- no height, no support
+pub unheld : (occ : ℕ → ℕ → Bool) (W H y x : ℕ) → height_of occ W y x ≡ 0 → support occ W H y x ≡ false
+unfolding support
+unheld occ W H y x e = rw (e, le-ltb 0 0 (le_refl 0))
 
 -- a cell that does not stay at u but has that height is occupied
 pub stays_not : (b : Bool) (a u : ℕ) → (not b && eqb a u) ≡ false → a ≡ u → b ≡ true
@@ -61,15 +67,11 @@ stays_not false a u e q = absurd (eqb-false a u e q)
 pub open_high : (W : ℕ) (t : List ℕ) (x y : ℕ) → x < W → occupied t x y ≡ false → height_of (occupied t) W y x ≡ 0 → ⊥
 open_high W t x y p e z = omega (arith, height_in (occupied t) W y x p, upwards_pos t x y e)
 
--- a cell without one is occupied
-pub none_taken : (W : ℕ) (t : List ℕ) (x y : ℕ) → x < W → height_of (occupied t) W y x ≡ 0 → occupied t x y ≡ true
-none_taken W t x y p z = ⊎_elim (λ e. e) (λ e. absurd (open_high W t x y p e z)) (decide (occupied t x y))
+at_least_none : (n : ℕ) → int_max (pos n) (pos 0) ≡ pos n
+at_least_none zero = refl
+at_least_none (suc n) = rw (lt-ltb 0 (suc n) (omega arith))
 
 module _ (W H : ℕ) (s : List ℤ) (t : List ℕ) (S : Standing W H s t) (x y : ℕ) (px : x < W) (py : y < H) where
-  -- the cell's number
-  pub number_in : (y * W + x < length s) × (y * W + x < 64 * 64)
-  number_in = let d = digits_lt py px in (omega (arith, mul_comm W H, S.long), omega (arith, mul_comm W H, mul-le-mul S.sides.widest S.sides.highest))
-
   is : cell W s x y ≡ weight t x y
   is = stands_cell W H s t S.sound x y px py
 
@@ -81,11 +83,15 @@ module _ (W H : ℕ) (s : List ℤ) (t : List ℕ) (S : Standing W H s t) (x y :
       (λ e. ap g (is ∙ weight_empty t x y e ∙ ap pos (sym (height_in (occupied t) W y x px))) ∙ q e)
       (decide (occupied t x y))
 
-  pub taken_is : taken_z (cell W s x y) ≡ occupied t x y
-  taken_is = by_weight taken_z (occupied t x y) (λ k e. sym e) (λ e. sym e)
+  -- it is negative exactly where the cell is occupied
+  pub below_is : lt_z (cell W s x y) (pos 0) ≡ occupied t x y
+  below_is = by_weight (λ z. lt_z z (pos 0)) (occupied t x y) (λ k e. sym e) (λ e. le-ltb (height_of (occupied t) W y x) 0 (omega arith) ∙ sym e)
 
-  pub count_is : count_of (cell W s x y) ≡ height_of (occupied t) W y x
-  count_is = by_weight count_of (height_of (occupied t) W y x) (λ k e. sym (height_taken (occupied t) W y x e)) (λ e. refl)
+  -- the greater of it and 0 is the height
+  pub height_is : int_max (cell W s x y) (pos 0) ≡ pos (height_of (occupied t) W y x)
+  height_is =
+      by_weight (λ z. int_max z (pos 0)) (pos (height_of (occupied t) W y x))
+      (λ k e. ap pos (sym (height_taken (occupied t) W y x e))) (λ e. at_least_none (height_of (occupied t) W y x))
 
   -- the cell is empty and has the height u
   pub stays_is : (u : ℕ) → eq_z (cell W s x y) (pos u) ≡ (not (occupied t x y) && eqb (height_of (occupied t) W y x) u)
@@ -96,9 +102,6 @@ module _ (W H : ℕ) (s : List ℤ) (t : List ℕ) (S : Standing W H s t) (x y :
   rises_is u =
       by_weight (lt_z (pos u)) (ltb u (height_of (occupied t) W y x))
       (λ k e. sym (le-ltb u (height_of (occupied t) W y x) (omega (arith, height_taken (occupied t) W y x e)))) (λ e. refl)
-
-  pub count_low : count_of (cell W s x y) ≤ 64
-  count_low = omega (arith, count_is, height_in (occupied t) W y x px, upwards_le (occupied t) x y, S.sides.highest)
 
   -- the holder's module, on the surface
   module _ (e : occupied t x y ≡ true) where
@@ -119,11 +122,11 @@ module _ (W H : ℕ) (s : List ℤ) (t : List ℕ) (S : Standing W H s t) (x y :
     -- the walk skips by the number: it is the width that remains
     width_is : width_of (cell W s x y) ≡ r.x + r.w - x
     unfolding number
-    width_is = ap width_of (is ∙ weight_number t x y e) ∙ width_neg (number i r x) (number_at_lem t x y e)
+    width_is = ap width_of (is ∙ weight_number t x y e) ∙ width_neg (number i r x)
       where
-        width_neg : (n : ℕ) → 1 ≤ n → width_of (neg_ℤ (pos n)) ≡ n
-        width_neg zero h = absurd (omega arith)
-        width_neg (suc n) h = refl
+        width_neg : (n : ℕ) → width_of (neg_ℤ (pos n)) ≡ n
+        width_neg zero = refl
+        width_neg (suc n) = refl
 
     along : (k : ℕ) → x ≤ k → k < r.x + r.w → occupied t k y ≡ true
     unfolding occupied holds covers

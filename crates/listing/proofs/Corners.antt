@@ -1,5 +1,6 @@
 -- Corners of a scanned row by its heights: a cell is a corner exactly when the next height is smaller. Assumes nothing.
-use mathlib.Core.Path.{◌≡◌, sym, ap, ap₂, ◌∙◌}
+use mir.Val.{bool_byte}
+use mathlib.Core.Path.{◌≡◌, refl, sym, ap, ap₂, ◌∙◌}
 use mathlib.Core.Bool.{Bool, true, false, cond, and-false}
 use mathlib.Core.Logic.{⊎_elim}
 use mathlib.Core.List.{List}
@@ -55,6 +56,10 @@ module _ (W H : ℕ) (t : List ℕ) (y : ℕ) (s : scanned H t y ≡ true) where
       (decide (occupied t x y))
 
 -- ---- as many as the heights that are smaller than the one before
+
+pub byte_is : (b : Bool) → bool_byte b ≡ cond b 1 0
+byte_is true = refl
+byte_is false = refl
 
 pub one_or_none : (b : Bool) → cond b 1 0 ≤ 1
 one_or_none true = le_refl 1

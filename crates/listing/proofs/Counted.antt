@@ -1,7 +1,9 @@
 -- Entries and corners counted row after row. Assumes nothing.
 use mathlib.Core.Path.{◌≡◌, refl, sym, ap, ap₂, ◌∙◌, subst}
 use mathlib.Core.Bool.{true, false}
+use mathlib.Core.Logic.{⊎_elim}
 use mathlib.Core.List.{List}
+use Rattle.std.specs.Prelude.{Ok, Err}
 use Prim.Native.Nat.{ℕ, ◌+◌, ◌*◌, ◌≤◌, ◌<◌}
 use native.Mathlib.Nat.{add-zero, mul-le-mul}
 use native.Mathlib.Numerals.{add-one}
@@ -12,12 +14,14 @@ use lib.IntN.{ℤ}
 use Rattle.rules.specs.Tests.{total, count}
 use Rattle.rules.specs.Surface.{occupied, Standing}
 use Rattle.rules.specs.Empties.{entries, scanned, corner, corners}
-use Rattle.rules.specs.Calls.{room_after}
-use Rattle.rules.proofs.Tests.{count_le}
+use Rattle.rules.specs.Calls.{room_after, short_room}
+use Rattle.rules.specs.declared.Refusal.TheVariants.{RoomShort}
+use Rattle.rules.proofs.Tests.{count_le, decide}
 use Rattle.meaning.proofs.Bound.{entries_few}
 use Rattle.meaning.proofs.Corners.{corners_few}
 use Rattle.listing.specs.Row.{turns}
-use Rattle.listing.specs.Listed.{height_of, entries_in, listed, listed_result, listed_room}
+use Rattle.listing.specs.Listed.{height_of, entries_in, listed, listing, listing_number, listed_result, listed_room}
+use Rattle.listing.specs.declared.row.Counts.{Counts}
 use Rattle.listing.proofs.ListLaws.{entries_listed, unscanned_rects, rects_length}
 use Rattle.listing.proofs.Corners.{turns_corners, no_corner}
 use Rattle.listing.proofs.Written.{listed_none, listed_grows}
@@ -59,19 +63,16 @@ module _ (W H : ℕ) (t : List ℕ) where
   unfolding total
   turned_none = record { number = refl; few = omega arith }
 
-  -- the corners of a scanned row, by its heights
-  pub row_corners : (y m : ℕ) → scanned H t y ≡ true → m ≡ turns (height_of (occupied t) W y) (W + 1) → (m ≡ count W (λ x. corner W H t x y)) × (m ≤ W)
-  row_corners y m s e = let n = turns_corners W H t y m s e in (n, omega (arith, n, count_le W (λ x. corner W H t x y)))
-
-  turned_grows : (k y m : ℕ) → Turned W H t k y → W ≤ 64 → m ≡ count W (λ x. corner W H t x y) → m ≤ W → Turned W H t (k + m) (y + 1)
+  turned_grows : (k y m : ℕ) → Turned W H t k y → W ≤ 64 → m ≡ count W (λ x. corner W H t x y) → Turned W H t (k + m) (y + 1)
   unfolding total
-  turned_grows k y m c w em lm = record { number = ap₂ ◌+◌ c.number em ∙ rw add-one; few = omega (arith, c.few) }
+  turned_grows k y m c w em = record { number = ap₂ ◌+◌ c.number em ∙ rw add-one; few = omega (arith, c.few, count_le W (λ x. corner W H t x y)) }
 
+  -- the corners of a scanned row, by its heights
   pub turned_more : (k y m : ℕ) → Turned W H t k y → W ≤ 64 → scanned H t y ≡ true → m ≡ turns (height_of (occupied t) W y) (W + 1) → Turned W H t (k + m) (y + 1)
-  turned_more k y m c w s e = let n = row_corners y m s e in turned_grows k y m c w n.0 n.1
+  turned_more k y m c w s e = turned_grows k y m c w (turns_corners W H t y m s e)
 
   pub turned_skip : (k y : ℕ) → Turned W H t k y → W ≤ 64 → scanned H t y ≡ false → Turned W H t k (y + 1)
-  turned_skip k y c w s = subst (λ n. Turned W H t n (y + 1)) (add-zero k) (turned_grows k y 0 c w (sym (no_corner W H t y s)) (omega arith))
+  turned_skip k y c w s = subst (λ n. Turned W H t n (y + 1)) (add-zero k) (turned_grows k y 0 c w (sym (no_corner W H t y s)))
 
   pub turned_all : (k y : ℕ) → Turned W H t k y → y ≡ H → k ≡ corners W H t
   unfolding corners
@@ -86,11 +87,17 @@ counts_low {W} {H} {s} {t} S =
 -- ---- the answer of a listing
 
 module _ (W H : ℕ) (t room : List ℕ) where
-  pub too_short : ltb (length room) (8 * length (entries (occupied t) W H)) ≡ true → (7 ≡ listed_result W H t room) × (room ≡ listed_room W H t room)
-  unfolding listed_result listed_room
+  pub too_short : ltb (length room) (8 * length (entries (occupied t) W H)) ≡ true
+      → (Err RoomShort ≡ listing W H t room) × (room ≡ listed_room W H t room)
+  unfolding listing listed_room
   too_short q = (rw q, rw q)
 
-  pub all_listed : (n m : ℕ) → n ≡ length (entries (occupied t) W H) → m ≡ corners W H t → ltb (length room) (8 * length (entries (occupied t) W H)) ≡ false
-      → (65536 * n + 4294967296 * m ≡ listed_result W H t room) × (room_after W H t room ≡ listed_room W H t room)
-  unfolding listed_result listed_room
-  all_listed n m en em q = (rw (q, en, em) (omega arith), rw q)
+  pub all_listed : (c : Counts) → c.entries ≡ length (entries (occupied t) W H) → c.corners ≡ corners W H t → ltb (length room) (8 * length (entries (occupied t) W H)) ≡ false
+      → (Ok c ≡ listing W H t room) × (room_after W H t room ≡ listed_room W H t room)
+  unfolding listing listed_room
+  all_listed c en em q = (rw (q, ← en, ← em), rw q)
+
+  -- the number that the host is told
+  pub number_listed : listing_number (listing W H t room) ≡ listed_result W H t room
+  unfolding listing listed_result
+  number_listed = ⊎_elim (λ q. rw q) (λ q. rw q) (decide (short_room W H t room))

@@ -4,10 +4,10 @@ use mathlib.Core.Logic.{inl, inr, ⊎_elim, ◌↔◌}
 use mathlib.Core.Bool.{Bool, false}
 use mathlib.Core.List.Memᴰ
 use mathlib.Core.List.{List, [], map, ◌∷◌, Memᴰ}
-use Prim.Native.Nat.{ℕ, suc, ◌+◌, ◌-◌, ◌≤◌, ◌<◌}
+use Prim.Native.Nat.{ℕ, zero, suc, ◌+◌, ◌-◌, ◌≤◌, ◌<◌}
 use native.Mathlib.Nat.{le_refl}
 use native.Mathlib.Omega.{arith}
-use lib.ListN.{length, length-map}
+use lib.ListN.{length, get_or, length-map}
 use Rattle.rules.specs.Surface.{occupied}
 use Rattle.rules.specs.Empties.{Maximal, entries, Earlier, Ordered, scanned}
 use Rattle.rules.specs.declared.Rect.{Rect}
@@ -16,10 +16,9 @@ use Rattle.meaning.proofs.Rectangles.{rect_eq, entries_are}
 use Rattle.meaning.proofs.Order.{entries_ordered, ordered_chain}
 use Rattle.meaning.proofs.Bound.{one_row_few}
 use Rattle.meaning.proofs.Corners.{bottom_scanned}
-use Rattle.listing.specs.Row.{Entry, entry_at, rows}
+use Rattle.listing.specs.declared.entry.Entry.{Entry}
 use Rattle.listing.specs.Meaning.{IsEntry, Before}
-use Rattle.listing.specs.Listed.{height_of, support, entry_of, entry_rect, entries_in, rects_in, listed, Drawn}
-use Rattle.listing.proofs.Spans.{span_mem}
+use Rattle.listing.specs.Listed.{height_of, support, entry_of, entry_rect, entries_in, rects_in, listed, no_entry, Drawn}
 use Rattle.listing.proofs.Meaning.{entries_mem, entries_ordered as row-ordered, ordered_map}
 use Rattle.listing.proofs.Cells.{height_past}
 use Rattle.listing.proofs.Plane.{maximal_entry, entry_maximal, from_top}
@@ -75,7 +74,7 @@ module _ (occ : ℕ → ℕ → Bool) (W H : ℕ) where
   meant y e m = (entries_mem (height_of occ W y) (support occ W H y) W (height_past occ W y W (le_refl W)) e).0 m
 
   -- an entry's rectangle: its bottom row and its last column
-  bottom_of : (y : ℕ) (e : Entry) → y < H → Memᴰ e (entries_in occ W H y) → suc y - e.high + e.high ≡ suc y
+  bottom_of : (y : ℕ) (e : Entry) → y < H → Memᴰ e (entries_in occ W H y) → suc y - e.height + e.height ≡ suc y
   bottom_of y e h m = from_top occ W H y e h (meant y e m)
 
   right_of : (y : ℕ) (e : Entry) → Memᴰ e (entries_in occ W H y) → e.left + (suc e.right - e.left) ≡ suc e.right
@@ -147,7 +146,7 @@ unscanned t W H y h e =
     no_member (entries_in (occupied t) W H y)
     (λ a m.
     let o = of_entry (occupied t) W H y a h m in
-    let q : suc y - a.high + a.high - 1 ≡ y = omega (arith, o.bottom) in
+    let q : suc y - a.height + a.height - 1 ≡ y = omega (arith, o.bottom) in
     not_both (scanned H t y) (ap (scanned H t) (sym q) ∙ bottom_scanned t W H (entry_rect y a) o.is_maximal) e)
 
 pub unscanned_rects : (t : List ℕ) (W H y : ℕ) → y < H → scanned H t y ≡ false → rects_in (occupied t) W H y ≡ []
@@ -164,8 +163,13 @@ drawn occ W H y p q r e m =
     let i = meant occ W H y e m in
     record { low = omega arith; order = i.order; inside = omega (arith, i.inside); tall = i.positive; top = omega (arith, bottom_of occ W H y e p m) }
 
--- what the buffers hold of a row
-pub held_drawn : (occ : ℕ → ℕ → Bool) (W H y : ℕ) (ls rs hs : List ℕ) (n : ℕ) → y < H → W ≤ 64 → H ≤ 64 → rows ls rs hs n ≡ entries_in occ W H y
-    → (i : ℕ) → i < n → Drawn y (entry_at ls rs hs i)
-held_drawn occ W H y ls rs hs n p q r e i h =
-    drawn occ W H y p q r (entry_at ls rs hs i) (subst (λ l. Memᴰ (entry_at ls rs hs i) l) e (span_mem (entry_at ls rs hs) 0 n i (omega arith) (omega arith)))
+mem_at : {A : Type 0} (l : List A) (i : ℕ) (d : A) → i < length l → Memᴰ (get_or l i d) l
+mem_at [] i d h = absurd (omega arith)
+mem_at (a ∷ l) zero d h = Memᴰ.head refl
+mem_at (a ∷ l) (suc i) d h = Memᴰ.tail (mem_at l i d (omega arith))
+
+pub all_drawn : (occ : ℕ → ℕ → Bool) (W H y : ℕ) (l : List Entry) → y < H → W ≤ 64 → H ≤ 64 → l ≡ entries_in occ W H y
+    → (i : ℕ) → i < length l → Drawn y (get_or l i no_entry)
+all_drawn occ W H y l p q r e i h =
+    let g = get_or l i no_entry in
+    drawn occ W H y p q r g (subst (λ m. Memᴰ g m) e (mem_at l i no_entry h))

@@ -11,7 +11,8 @@ use native.Mathlib.Omega.{arith}
 use lib.Dec.{ltb}
 use borrow.Author.Tests.{ltb-true, lt-ltb}
 use Rattle.rules.specs.Tests.{put, chain}
-use Rattle.listing.specs.Row.{Entry, least, before, some, from_left, row_entries, entries_at}
+use Rattle.listing.specs.declared.entry.Entry.{Entry}
+use Rattle.listing.specs.Row.{least, before, some, from_left, row_entries, entries_at}
 use Rattle.rules.specs.Empties.{Ordered}
 use Rattle.rules.proofs.Tests.{lt_or_le, and_left, and_right, or_which, chain_mem, mem_chain}
 use Rattle.meaning.proofs.Order.{ordered_chain}
@@ -81,7 +82,7 @@ pub record Found (f : ℕ → ℕ) (b : ℕ → Bool) (r l : ℕ) (e : Entry) : 
   pub from : l ≤ start
   pub ends : start + more ≡ r
   pub hit : hits f b r start more ≡ true
-  pub is : e ≡ record { left = start; right = r; high = least f start more }
+  pub is : e ≡ record { left = start; right = r; height = least f start more }
 
 from_found : (f : ℕ → ℕ) (b : ℕ → Bool) (r l n : ℕ) (e : Entry) → l + n ≡ suc r → Memᴰ e (from_left f b r l n) → Found f b r l e
 unfolding from_left
@@ -149,12 +150,12 @@ module _ (f : ℕ → ℕ) (b : ℕ → Bool) (w : ℕ) (edge : f w ≡ 0) where
       let q : l + k ≡ r = omega (arith, i.order) in
       let m = least_met f l k in
       let c = i.height.met in
-      let t : e.high ≡ least f l k = omega (arith, i.height.below m.cell m.from (omega (arith, m.upto)), m.has, least_le f l k c.cell c.from (omega (arith, c.upto)), c.has) in
-      let up : before f l < least f l k = rw (← t) (ends_before f l e.high i.positive i.left_end) in
+      let t : e.height ≡ least f l k = omega (arith, i.height.below m.cell m.from (omega (arith, m.upto)), m.has, least_le f l k c.cell c.from (omega (arith, c.upto)), c.has) in
+      let up : before f l < least f l k = rw (← t) (ends_before f l e.height i.positive i.left_end) in
       let down : f (suc r) < least f l k =
       ⊎_elim
       (λ (p : r + 1 ≡ w). let z : f (suc r) ≡ 0 = rw (← add-one, p) edge in omega (arith, i.positive))
-      (λ (p : f (r + 1) < e.high). rw (← t) (rw add-one at p))
+      (λ (p : f (r + 1) < e.height). rw (← t) (rw add-one at p))
       i.right_end in
       record {
         start = l;
@@ -196,7 +197,7 @@ from_ordered : (f : ℕ → ℕ) (b : ℕ → Bool) (r l n : ℕ) → l + n ≡ 
 unfolding from_left Ordered
 from_ordered f b r l zero q = tt
 from_ordered f b r l (suc k) q =
-    ordered_keep Before (hits f b r l k) (record { left = l; right = r; high = least f l k }) (from_left f b r (suc l) k)
+    ordered_keep Before (hits f b r l k) (record { left = l; right = r; height = least f l k }) (from_left f b r (suc l) k)
     (λ e m. let g = from_found f b r (suc l) k e (omega arith) m in rw g.is (inr (refl, g.from)))
     (from_ordered f b r (suc l) k (omega arith))
 

@@ -12,7 +12,8 @@ use Rattle.rules.specs.Empties.{Empty, Inside, Maximal}
 use Rattle.rules.specs.declared.Rect.{Rect}
 use Rattle.rules.proofs.Tests.{lt_or_le, decide, fails, and_right}
 use Rattle.meaning.proofs.Rectangles.{rect_eq}
-use Rattle.listing.specs.Row.{Entry, least, some}
+use Rattle.listing.specs.declared.entry.Entry.{Entry}
+use Rattle.listing.specs.Row.{least, some}
 use Rattle.listing.specs.Meaning.{Cell, IsEntry}
 use Rattle.listing.proofs.Meaning.{least_le, least_met, some_held, held_some}
 use Rattle.listing.specs.Listed.{height_of, support, entry_of, entry_rect}
@@ -167,10 +168,10 @@ module _ (occ : ℕ → ℕ → Bool) (W H : ℕ) where
 
   -- ---- an entry is a maximal rectangle
   module _ (d : ℕ) (e : Entry) (d-on : d < H) (i : IsEntry (height_of occ W d) (support occ W H d) W e) where
-    tall_enough : (c : ℕ) → e.left ≤ c → c < e.left + (suc e.right - e.left) → e.high ≤ upwards occ c d
+    tall_enough : (c : ℕ) → e.left ≤ c → c < e.left + (suc e.right - e.left) → e.height ≤ upwards occ c d
     tall_enough c p r = rw (height_in occ W d c (omega (arith, i.inside, i.order))) at (i.height.below c p (omega (arith, i.order)))
 
-    pub from_top : suc d - e.high + e.high ≡ suc d
+    pub from_top : suc d - e.height + e.height ≡ suc d
     from_top = omega (arith, tall_enough e.left (le_refl _) (omega (arith, i.order)), upwards_le occ e.left d)
 
     -- b is empty and contains the entry's rectangle; its bottom row is d'
@@ -192,7 +193,7 @@ module _ (occ : ℕ → ℕ → Bool) (W H : ℕ) where
       column : (c : ℕ) → b.x ≤ c → c < b.x + b.w → b.h ≤ height_of occ W d c
       column c p r = rw (height_in occ W d c (omega (arith, m.columns))) (runs b d bottom m c p r)
 
-      same_height : b.h ≡ e.high
+      same_height : b.h ≡ e.height
       same_height =
           let c = i.height.met in
           omega (
@@ -209,7 +210,7 @@ module _ (occ : ℕ → ℕ → Bool) (W H : ℕ) where
           ⊎_elim
           (λ (p : b.x < e.left).
           let g = column (e.left - 1) (omega arith) (omega (arith, n.right, i.order)) in
-          absurd (⊎_elim (λ (z : e.left ≡ 0). omega arith) (λ (z : height_of occ W d (e.left - 1) < e.high). omega (arith, same_height, g)) i.left_end))
+          absurd (⊎_elim (λ (z : e.left ≡ 0). omega arith) (λ (z : height_of occ W d (e.left - 1) < e.height). omega (arith, same_height, g)) i.left_end))
           (λ (p : e.left ≤ b.x). omega (arith, n.left))
           (lt_or_le b.x e.left)
 
@@ -218,7 +219,7 @@ module _ (occ : ℕ → ℕ → Bool) (W H : ℕ) where
           ⊎_elim
           (λ (p : suc e.right < b.x + b.w).
           let g = column (e.right + 1) (omega (arith, n.left, i.order)) (omega arith) in
-          absurd (⊎_elim (λ (z : e.right + 1 ≡ W). omega (arith, m.columns)) (λ (z : height_of occ W d (e.right + 1) < e.high). omega (arith, same_height, g)) i.right_end))
+          absurd (⊎_elim (λ (z : e.right + 1 ≡ W). omega (arith, m.columns)) (λ (z : height_of occ W d (e.right + 1) < e.height). omega (arith, same_height, g)) i.right_end))
           (λ (p : b.x + b.w ≤ suc e.right). omega (arith, n.right, i.order))
           (lt_or_le (suc e.right) (b.x + b.w))
 

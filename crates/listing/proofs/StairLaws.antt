@@ -13,7 +13,9 @@ use lib.Dec.{ltb}
 use borrow.Author.Tests.{ltb-true, lt-ltb, le-ltb}
 use Rattle.rules.specs.Tests.{put}
 use Rattle.rules.proofs.Tests.{lt_or_le, decide}
-use Rattle.listing.specs.Row.{Entry, Stair, least, before, some, from_left, row_entries, entries_at, stairs_from, stairs, pushed, leaving, reach}
+use Rattle.listing.specs.declared.entry.Entry.{Entry}
+use Rattle.listing.specs.declared.stairs.Stair.{Stair}
+use Rattle.listing.specs.Row.{least, before, some, from_left, row_entries, entries_at, stairs_from, stairs, pushed, leaving, reach}
 
 -- ---- the least of a stretch
 
@@ -44,18 +46,18 @@ low_zero f (suc k) = omega arith
 
 unfoldable pub Above : ℕ → List Stair → Type 0
 Above v [] = Unit {0}
-Above v (s ∷ t) = (v < s.high) × Above v t
+Above v (s ∷ t) = (v < s.height) × Above v t
 
 unfoldable pub Rising : List Stair → Type 0
 Rising [] = Unit {0}
-Rising (s ∷ t) = Above s.high t × Rising t
+Rising (s ∷ t) = Above s.height t × Rising t
 
 above_weak : (v w : ℕ) (t : List Stair) → v ≤ w → Above w t → Above v t
 unfolding Above
 above_weak v w [] h a = tt
 above_weak v w (s ∷ t) h a = (le_trans (omega arith) a.0, above_weak v w t h a.1)
 
-above_keep : (v : ℕ) (c : Bool) (s : Stair) (t : List Stair) → (c ≡ true → v < s.high) → Above v t → Above v (put c s t)
+above_keep : (v : ℕ) (c : Bool) (s : Stair) (t : List Stair) → (c ≡ true → v < s.height) → Above v t → Above v (put c s t)
 unfolding Above
 above_keep v true s t h a = (h refl, a)
 above_keep v false s t h a = a
@@ -64,10 +66,10 @@ stairs_above : (f : ℕ → ℕ) (l n : ℕ) → Above (low f l n) (stairs_from 
 unfolding stairs_from Above
 stairs_above f l zero = tt
 stairs_above f l (suc k) =
-    above_keep (low f l (suc k)) (ltb (before f l) (least f l k)) (record { left = l; high = least f l k }) (stairs_from f (suc l) k) (λ e. unfold low in (omega (arith, ltb-true (before f l) (least f l k) e)))
+    above_keep (low f l (suc k)) (ltb (before f l) (least f l k)) (record { left = l; height = least f l k }) (stairs_from f (suc l) k) (λ e. unfold low in (omega (arith, ltb-true (before f l) (least f l k) e)))
     (above_weak (low f l (suc k)) (low f (suc l) k) (stairs_from f (suc l) k) (unfold low in (omega (arith, low_next f l k))) (stairs_above f (suc l) k))
 
-rising_keep : (c : Bool) (s : Stair) (t : List Stair) → Above s.high t → Rising t → Rising (put c s t)
+rising_keep : (c : Bool) (s : Stair) (t : List Stair) → Above s.height t → Rising t → Rising (put c s t)
 unfolding Rising
 rising_keep true s t a r = (a, r)
 rising_keep false s t a r = r
@@ -76,17 +78,17 @@ pub stairs_rising : (f : ℕ → ℕ) (l n : ℕ) → Rising (stairs_from f l n)
 unfolding stairs_from Rising
 stairs_rising f l zero = tt
 stairs_rising f l (suc k) =
-    rising_keep (ltb (before f l) (least f l k)) (record { left = l; high = least f l k }) (stairs_from f (suc l) k) (rw low_next at (stairs_above f (suc l) k)) (stairs_rising f (suc l) k)
+    rising_keep (ltb (before f l) (least f l k)) (record { left = l; height = least f l k }) (stairs_from f (suc l) k) (rw low_next at (stairs_above f (suc l) k)) (stairs_rising f (suc l) k)
 
 -- ---- one cell more
 
-pub pushed_low : (c : Bool) (v x : ℕ) (s : Stair) (t : List Stair) → s.high < v → pushed c v x (s ∷ t) ≡ s ∷ pushed c v x t
+pub pushed_low : (c : Bool) (v x : ℕ) (s : Stair) (t : List Stair) → s.height < v → pushed c v x (s ∷ t) ≡ s ∷ pushed c v x t
 unfolding pushed
-pushed_low c v x s t h = rw (lt-ltb s.high v h)
+pushed_low c v x s t h = rw (lt-ltb s.height v h)
 
-pub pushed_high : (c : Bool) (v x : ℕ) (s : Stair) (t : List Stair) → v ≤ s.high → pushed c v x (s ∷ t) ≡ put c (record { left = s.left; high = v }) []
+pub pushed_high : (c : Bool) (v x : ℕ) (s : Stair) (t : List Stair) → v ≤ s.height → pushed c v x (s ∷ t) ≡ put c (record { left = s.left; height = v }) []
 unfolding pushed
-pushed_high c v x s t h = rw (le-ltb s.high v h)
+pushed_high c v x s t h = rw (le-ltb s.height v h)
 
 none_pushed : (v w x : ℕ) (t : List Stair) → v ≤ w → Above w t → pushed false v x t ≡ []
 unfolding pushed Above
@@ -94,19 +96,19 @@ none_pushed v w x [] h a = refl
 none_pushed v w x (s ∷ t) h a = pushed_high false v x s t (omega (arith, a.0))
 
 -- a stair lower than v in front
-push_low : (v x : ℕ) (c : Bool) (s : Stair) (t : List Stair) → s.high < v → put c s (pushed true v x t) ≡ pushed true v x (put c s t)
+push_low : (v x : ℕ) (c : Bool) (s : Stair) (t : List Stair) → s.height < v → put c s (pushed true v x t) ≡ pushed true v x (put c s t)
 push_low v x true s t h = sym (pushed_low true v x s t h)
 push_low v x false s t h = refl
 
 -- a stair that is not lower, where no stair of height v is wanted
-push_high : (v x : ℕ) (c : Bool) (s : Stair) (t : List Stair) → v ≤ s.high → Above s.high t → pushed false v x (put c s t) ≡ []
+push_high : (v x : ℕ) (c : Bool) (s : Stair) (t : List Stair) → v ≤ s.height → Above s.height t → pushed false v x (put c s t) ≡ []
 push_high v x true s t h a = pushed_high false v x s t h
-push_high v x false s t h a = none_pushed v s.high x t h a
+push_high v x false s t h a = none_pushed v s.height x t h a
 
 -- p is the height left of l, h the least from l on and h' the same with v, t the stairs from l + 1 on and u the same with v
 module _ (p h h' v x l : ℕ) (t u : List Stair) (e : h' ≡ min h v) (a : Above h t) (q : u ≡ pushed (ltb h v) v x t) where
   abbrev Stepped : Type 0
-  Stepped = put (ltb p h') (record { left = l; high = h' }) u ≡ pushed (ltb (min p h) v) v x (put (ltb p h) (record { left = l; high = h }) t)
+  Stepped = put (ltb p h') (record { left = l; height = h' }) u ≡ pushed (ltb (min p h) v) v x (put (ltb p h) (record { left = l; height = h }) t)
 
   lower : h < v → Stepped
   lower k =
@@ -118,8 +120,8 @@ module _ (p h h' v x l : ℕ) (t u : List Stair) (e : h' ≡ min h v) (a : Above
       let e' : h' ≡ v = omega arith in
       let n : u ≡ [] = q ∙ rw (le-ltb h v k) (none_pushed v h x t k a) in
       ⊎_elim
-      (λ (m : p < v). rw (n, e', lt-ltb p v m, lt-ltb p h (omega arith), lt-ltb (min p h) v (omega arith)) (sym (pushed_high true v x (record { left = l; high = h }) t k)))
-      (λ (m : v ≤ p). rw (n, e', le-ltb p v m, le-ltb (min p h) v (omega arith)) (sym (push_high v x (ltb p h) (record { left = l; high = h }) t k a)))
+      (λ (m : p < v). rw (n, e', lt-ltb p v m, lt-ltb p h (omega arith), lt-ltb (min p h) v (omega arith)) (sym (pushed_high true v x (record { left = l; height = h }) t k)))
+      (λ (m : v ≤ p). rw (n, e', le-ltb p v m, le-ltb (min p h) v (omega arith)) (sym (push_high v x (ltb p h) (record { left = l; height = h }) t k a)))
       (lt_or_le p v)
 
   step : Stepped
@@ -130,7 +132,7 @@ push_from : (f : ℕ → ℕ) (l n x : ℕ) → l + n ≡ x
     → stairs_from f l (suc n) ≡ pushed (ltb (low f l n) (f x)) (f x) x (stairs_from f l n)
 unfolding stairs_from low least pushed
 push_from f l zero x e =
-    ap (λ (y : ℕ). put (ltb (before f l) (f y)) (record { left = y; high = f y }) []) (omega arith)
+    ap (λ (y : ℕ). put (ltb (before f l) (f y)) (record { left = y; height = f y }) []) (omega arith)
 push_from f l (suc k) x e =
     step (before f l) (least f l k) (least f l (suc k)) (f x) x l (stairs_from f (suc l) k) (stairs_from f (suc l) (suc k))
     (rw (← e) (least_more f l k))
@@ -159,7 +161,7 @@ some_reach b l (suc k) = rw (some_reach b l k, add-suc) (go (b (suc (l + k))))
     go false = or-false (ltb l (reach b (suc (l + k))))
 
 leave_one : (c d : Bool) (s : Stair) (v e r : ℕ) (t : List Stair) (u : List Entry) → d ≡ ltb s.left e → u ≡ leaving v e r t
-    → put (c && (ltb v s.high && d)) (record { left = s.left; right = r; high = s.high }) u ≡ leaving v e r (put c s t)
+    → put (c && (ltb v s.height && d)) (record { left = s.left; right = r; height = s.height }) u ≡ leaving v e r (put c s t)
 unfolding leaving
 leave_one true d s v e r t u p h = rw (p, h)
 leave_one false d s v e r t u p h = h
@@ -170,7 +172,7 @@ leave_from : (f : ℕ → ℕ) (b : ℕ → Bool) (r l n : ℕ) → l + n ≡ su
 unfolding from_left stairs_from leaving
 leave_from f b r l zero e = refl
 leave_from f b r l (suc k) e =
-    leave_one (ltb (before f l) (least f l k)) (some b l k) (record { left = l; high = least f l k }) (f (suc r)) (reach b (suc r)) r
+    leave_one (ltb (before f l) (least f l k)) (some b l k) (record { left = l; height = least f l k }) (f (suc r)) (reach b (suc r)) r
     (stairs_from f (suc l) k) (from_left f b r (suc l) k)
     (rw (← e, add-suc) (some_reach b l k))
     (leave_from f b r (suc l) k (omega arith))
@@ -188,21 +190,21 @@ keep_le false a l = omega arith
 leaving_le : (v e r : ℕ) (t : List Stair) → length (leaving v e r t) ≤ length t
 unfolding leaving
 leaving_le v e r [] = le_refl 0
-leaving_le v e r (s ∷ t) = omega (arith, keep_le {A = Entry} (ltb v s.high && ltb s.left e) (record { left = s.left; right = r; high = s.high }) (leaving v e r t), leaving_le v e r t)
+leaving_le v e r (s ∷ t) = omega (arith, keep_le {A = Entry} (ltb v s.height && ltb s.left e) (record { left = s.left; right = r; height = s.height }) (leaving v e r t), leaving_le v e r t)
 
-pub none_leaves : (v e r : ℕ) (s : Stair) (t : List Stair) → s.high ≤ v → leaving v e r (s ∷ t) ≡ leaving v e r t
+pub none_leaves : (v e r : ℕ) (s : Stair) (t : List Stair) → s.height ≤ v → leaving v e r (s ∷ t) ≡ leaving v e r t
 unfolding leaving
-none_leaves v e r s t h = rw (le-ltb v s.high h)
+none_leaves v e r s t h = rw (le-ltb v s.height h)
 
 -- what leaves and what stays are at most one more than there were
 step_le : (c : Bool) (v e r x : ℕ) (t : List Stair) → length (leaving v e r t) + length (pushed c v x t) ≤ suc (length t)
-step_le c v e r x [] = unfold leaving pushed in (omega (arith, keep_le {A = Stair} c (record { left = x; high = v }) []))
+step_le c v e r x [] = unfold leaving pushed in (omega (arith, keep_le {A = Stair} c (record { left = x; height = v }) []))
 step_le c v e r x (s ∷ t) =
     let ih = step_le c v e r x t in
     ⊎_elim
-    (λ (h : s.high < v). rw (none_leaves v e r s t (omega arith), pushed_low c v x s t h) (omega (arith, ih)))
-    (λ (h : v ≤ s.high). rw (pushed_high c v x s t h) (omega (arith, leaving_le v e r (s ∷ t), keep_le {A = Stair} c (record { left = s.left; high = v }) [])))
-    (lt_or_le s.high v)
+    (λ (h : s.height < v). rw (none_leaves v e r s t (omega arith), pushed_low c v x s t h) (omega (arith, ih)))
+    (λ (h : v ≤ s.height). rw (pushed_high c v x s t h) (omega (arith, leaving_le v e r (s ∷ t), keep_le {A = Stair} c (record { left = s.left; height = v }) [])))
+    (lt_or_le s.height v)
 
 -- the entries that ended before cell x, and so left at x or earlier
 unfoldable pub ended : (ℕ → ℕ) → (ℕ → Bool) → ℕ → List Entry

@@ -8,7 +8,8 @@ use Rattle.rules.specs.Tests.{chain}
 use Rattle.rules.specs.Surface.{occupied}
 use Rattle.rules.specs.Empties.{Maximal, entries, scanned, corner}
 use Rattle.rules.specs.declared.Rect.{Rect}
-use Rattle.listing.specs.Row.{Entry, stairs, pushed, leaving, reach, entries_at}
+use Rattle.listing.specs.declared.entry.Entry.{Entry}
+use Rattle.listing.specs.Row.{stairs, pushed, leaving, reach, entries_at}
 use Rattle.listing.specs.Meaning.{IsEntry}
 use Rattle.listing.specs.Listed.{height_of, support, entry_of, entry_rect, entries_in, rects_in, listed}
 use Rattle.listing.proofs.StairLaws as S

@@ -1,22 +1,22 @@
 -- Records written one after the other into a list: what is before them and behind them stays. Assumes nothing.
 use mathlib.Core.Path.{◌≡◌, refl, sym, ap, ap₂, ◌∙◌}
 use mathlib.Core.Bool.{Bool}
-use mathlib.Core.List.{List, [], ◌∷◌, ◌++◌, append_assoc, map, map-append}
+use mathlib.Core.List.{List, [], ◌∷◌, ◌++◌, append_assoc, map}
 use Prim.Native.Nat.{ℕ, zero, suc, ◌+◌, ◌-◌, ◌*◌, ◌≤◌, ◌<◌}
-use native.Mathlib.Nat.{add-zero, mul-le-mul}
+use native.Mathlib.Nat.{add-zero}
 use native.Mathlib.Numerals.{add-one}
 use native.Mathlib.Omega.{arith}
 use borrow.Rule.Slice.PartMut.{put_mid, Post-is}
-use lib.ListN.{length, length-map, take, drop, length-append, length-take, length-drop, take-append-drop}
+use Rattle.std.proofs.lemmas.List.{map_more, length-take-le}
+use lib.ListN.{length, length-map, get_or, take, drop, length-append, length-take, length-drop, take-append-drop}
 use lib.Seq.{take_at, drop-append-add, drop-drop}
 use Rattle.rules.specs.Empties.{entry_record, entry_records}
 use Rattle.rules.specs.Tests.{chain}
 use Rattle.rules.specs.Empties.{entries}
 use Rattle.rules.specs.declared.Rect.{Rect}
-use Rattle.listing.specs.Row.{Entry, entry, entry_at, rows, span}
-use Rattle.listing.specs.Listed.{entry_rect, entries_in, rects_in, listed, written, records_in, records_of, Drawn}
-use Rattle.listing.proofs.Spans.{length-span, span_more}
-use Rattle.listing.proofs.ListLaws.{entries_listed}
+use Rattle.listing.specs.declared.entry.Entry.{Entry}
+use Rattle.listing.specs.Listed.{no_entry, entry_rect, entries_in, rects_in, listed, written, records_in, records_of}
+use Rattle.listing.proofs.ListLaws.{entries_listed, rects_length}
 
 pub written_none : (at : ℕ) (l : List ℕ) → l ≡ written at [] l
 unfolding written
@@ -68,66 +68,50 @@ records_append [] m = refl
 records_append (r ∷ l) m = ap (λ (t : List ℕ). entry_record r ++ t) (records_append l m)
 
 -- the records of a row's first i entries
-abbrev pub recorded : ℕ → List ℕ → List ℕ → List ℕ → ℕ → List ℕ
-recorded y ls rs hs i = entry_records (map (entry_rect y) (rows ls rs hs i))
+abbrev pub recorded : ℕ → List Entry → ℕ → List ℕ
+recorded y l i = entry_records (map (entry_rect y) (take i l))
 
-pub recorded_more : (y : ℕ) (ls rs hs : List ℕ) (i : ℕ) → recorded y ls rs hs (i + 1) ≡ recorded y ls rs hs i ++ entry_record (entry_rect y (entry_at ls rs hs i))
+recorded_more : (y : ℕ) (l : List Entry) (i : ℕ) → i < length l → recorded y l (i + 1) ≡ recorded y l i ++ entry_record (entry_rect y (get_or l i no_entry))
 unfolding entry_records
-recorded_more y ls rs hs i =
-    ap (λ (l : List Entry). entry_records (map (entry_rect y) l)) (span_more (entry_at ls rs hs) i)
-    ∙ ap entry_records (map-append (entry_rect y) (rows ls rs hs i) (entry_at ls rs hs i ∷ []))
-    ∙ records_append (map (entry_rect y) (rows ls rs hs i)) (entry_rect y (entry_at ls rs hs i) ∷ [])
+recorded_more y l i h =
+    ap entry_records (map_more (entry_rect y) l i no_entry h) ∙ records_append (map (entry_rect y) (take i l)) (entry_rect y (get_or l i no_entry) ∷ [])
 
-pub recorded_length : (y : ℕ) (ls rs hs : List ℕ) (i : ℕ) → length (recorded y ls rs hs i) ≡ 8 * i
-recorded_length y ls rs hs i =
-    records_length (map (entry_rect y) (rows ls rs hs i)) ∙ ap (λ n. 8 * n) (length-map (rows ls rs hs i) (entry_rect y) ∙ length-span (entry_at ls rs hs) 0 i)
-
--- the area of an entry
-pub area_low : {y l r h : ℕ} → Drawn y (entry l r h) → (r + 1 - l) * h ≤ 64 * 64
-area_low {y} {l} {r} {h} d =
-    let wide : r + 1 - l ≤ 64 = omega (arith, d.inside) in
-    let high : h ≤ 64 = omega (arith, d.top, d.low) in
-    mul-le-mul wide high
+recorded_length : (y : ℕ) (l : List Entry) (i : ℕ) → i ≤ length l → length (recorded y l i) ≡ 8 * i
+recorded_length y l i h = records_length (map (entry_rect y) (take i l)) ∙ ap (λ n. 8 * n) (length-map (take i l) (entry_rect y) ∙ length-take-le i l h)
 
 -- ---- the entries of a row, one after the other: i of them stand in the room from `at` on
 
-pub record Recorded (y at n : ℕ) (ls rs hs room₀ room : List ℕ) (i o : ℕ) : Type 0 where
-  pub upto : i ≤ n
-  pub next : o ≡ at + 8 * i
-  pub bytes : room ≡ written at (recorded y ls rs hs i) room₀
+pub record Recorded (y at : ℕ) (l : List Entry) (room₀ room : List ℕ) (i : ℕ) : Type 0 where
+  pub upto : i ≤ length l
+  pub bytes : room ≡ written at (recorded y l i) room₀
 
-module _ (y at n : ℕ) (ls rs hs room₀ : List ℕ) (fits : at + 8 * n ≤ length room₀) where
-  pub record_none : Recorded y at n ls rs hs room₀ room₀ 0 at
-  record_none = record { upto = omega arith; next = omega arith; bytes = unfold entry_records span in (written_none at room₀) }
+module _ (y at : ℕ) (l : List Entry) (room₀ : List ℕ) (fits : at + 8 * length l ≤ length room₀) where
+  pub record_none : Recorded y at l room₀ room₀ 0
+  record_none = record { upto = omega arith; bytes = unfold entry_records in (written_none at room₀) }
 
-  pub record_long : (room : List ℕ) (i o : ℕ) → Recorded y at n ls rs hs room₀ room i o → length room ≡ length room₀
-  record_long room i o r =
-      ap length r.bytes ∙ length-written at (recorded y ls rs hs i) room₀ (omega (arith, recorded_length y ls rs hs i, r.upto))
-
-  pub record_more : (room room' p : List ℕ) (i o : ℕ) → Recorded y at n ls rs hs room₀ room i o → i < n → p ≡ entry_record (entry_rect y (entry_at ls rs hs i))
-      → room' ≡ put_mid o (o + 8 - o) room p → Recorded y at n ls rs hs room₀ room' (i + 1) (o + 8)
-  record_more room room' p i o r h ep er =
-      let R = recorded y ls rs hs i in
-      let oR : o ≡ at + length R = omega (arith, r.next, recorded_length y ls rs hs i) in
+  pub record_more : (room room' p : List ℕ) (i : ℕ) → Recorded y at l room₀ room i → i < length l → p ≡ entry_record (entry_rect y (get_or l i no_entry))
+      → room' ≡ put_mid (at + 8 * i) (at + 8 * i + 8 - (at + 8 * i)) room p → Recorded y at l room₀ room' (i + 1)
+  record_more room room' p i r h ep er =
+      let R = recorded y l i in
+      let long = recorded_length y l i r.upto in
       record {
         upto = omega arith;
-        next = omega (arith, r.next);
         bytes =
-            er ∙ written_part o 8 p room (ap length ep) ∙ ap (written o p) r.bytes ∙ ap (λ k. written k p (written at R room₀)) oR
-            ∙ written_more at R p room₀ (omega (arith, recorded_length y ls rs hs i, r.upto))
-            ∙ ap (λ t. written at (R ++ t) room₀) ep ∙ ap (λ t. written at t room₀) (sym (recorded_more y ls rs hs i));
+            er ∙ written_part (at + 8 * i) 8 p room (ap length ep) ∙ ap (written (at + 8 * i) p) r.bytes ∙ ap (λ k. written (at + k) p (written at R room₀)) (sym long)
+            ∙ written_more at R p room₀ (omega arith)
+            ∙ ap (λ t. written at (R ++ t) room₀) ep ∙ ap (λ t. written at t room₀) (sym (recorded_more y l i h));
       }
-
-  pub record_all : (room : List ℕ) (i o : ℕ) → Recorded y at n ls rs hs room₀ room i o → n ≤ i → room ≡ written at (recorded y ls rs hs n) room₀
-  record_all room i o r h = let q : i ≡ n = omega (arith, r.upto) in r.bytes ∙ ap (λ k. written at (recorded y ls rs hs k) room₀) q
 
 -- ---- the rows, one after the other
 
 module _ (occ : ℕ → ℕ → Bool) (W H : ℕ) where
-  -- what the buffers hold of row y
-  pub rows_records : (y : ℕ) (ls rs hs : List ℕ) (n : ℕ) → rows ls rs hs n ≡ entries_in occ W H y → recorded y ls rs hs n ≡ records_in occ W H y
+  -- what the buffer holds of row y: eight bytes for each entry
+  pub row_records : (y : ℕ) (l : List Entry) → l ≡ entries_in occ W H y → entry_records (map (entry_rect y) l) ≡ records_in occ W H y
   unfolding rects_in
-  rows_records y ls rs hs n e = ap (λ (l : List Entry). entry_records (map (entry_rect y) l)) e
+  row_records y l e = ap (λ (m : List Entry). entry_records (map (entry_rect y) m)) e
+
+  pub row_bytes : (y n : ℕ) → n ≡ length (entries_in occ W H y) → 8 * n ≡ length (records_in occ W H y)
+  row_bytes y n e = omega (arith, rects_length occ W H y, records_length (rects_in occ W H y))
 
   pub listed_more : (y : ℕ) → listed occ W H (y + 1) ≡ listed occ W H y ++ rects_in occ W H y
   unfolding listed chain

@@ -1,6 +1,6 @@
 -- What the entries of a row are, without saying how they are found; and the order of the list. Assumes nothing.
 use Rattle.std.specs.Prelude.{◌≡◌, ◌⊎◌, Bool, true, ℕ, ◌+◌, ◌-◌, ◌≤◌, ◌<◌}
-use Rattle.listing.specs.Row.{Entry}
+use Rattle.listing.specs.declared.entry.Entry.{Entry}
 
 -- a cell of l .. r with the property P
 pub record Cell (l r : ℕ) (P : ℕ → Type 0) : Type 0 where
@@ -18,10 +18,10 @@ pub record IsLeast (f : ℕ → ℕ) (l r h : ℕ) : Type 0 where
 pub record IsEntry (f : ℕ → ℕ) (b : ℕ → Bool) (w : ℕ) (e : Entry) : Type 0 where
   pub order : e.left ≤ e.right
   pub inside : e.right < w
-  pub positive : 0 < e.high
-  pub height : IsLeast f e.left e.right e.high
-  pub left_end : (e.left ≡ 0) ⊎ (f (e.left - 1) < e.high)
-  pub right_end : (e.right + 1 ≡ w) ⊎ (f (e.right + 1) < e.high)
+  pub positive : 0 < e.height
+  pub height : IsLeast f e.left e.right e.height
+  pub left_end : (e.left ≡ 0) ⊎ (f (e.left - 1) < e.height)
+  pub right_end : (e.right + 1 ≡ w) ⊎ (f (e.right + 1) < e.height)
   pub held : Cell e.left e.right (λ c. b c ≡ true)
 
 -- by right cell, then by left cell

@@ -1,22 +1,10 @@
 -- One row of a surface: which stretches of it are the bottom of a maximal empty rectangle, and the staircase (Handa and Vemuri) that finds them.
 -- `f c` is the height of the empty run that ends in cell c of the row, 0 where c is occupied and from the row's width on; `b c` says that c has
 -- support: it is empty, and the cell under it is occupied or the row is the last. Assumes nothing.
-use Rattle.std.specs.Prelude.{◌≡◌, Bool, cond, ◌&&◌, ◌||◌, List, [], ◌∷◌, ◌++◌, ℕ, zero, suc, ◌+◌, ◌≤◌, ◌<◌, min, get_or, ltb}
+use Rattle.std.specs.Prelude.{◌≡◌, Bool, cond, ◌&&◌, ◌||◌, List, [], ◌∷◌, ◌++◌, ℕ, zero, suc, ◌+◌, ◌≤◌, ◌<◌, min, length, get_or, ltb}
 use Rattle.rules.specs.Tests.{put}
-
--- an entry of a row: its left and right column, and its height
-pub record Entry : Type 0 where
-  pub left : ℕ
-  pub right : ℕ
-  pub high : ℕ
-
-abbrev pub entry : ℕ → ℕ → ℕ → Entry
-entry l r h = record { left = l; right = r; high = h }
-
--- a stair: where it starts, and its height
-pub record Stair : Type 0 where
-  pub left : ℕ
-  pub high : ℕ
+use Rattle.listing.specs.declared.entry.Entry.{Entry}
+use Rattle.listing.specs.declared.stairs.Stair.{Stair}
 
 -- the least of f l .. f (l + k)
 unfoldable pub least : (ℕ → ℕ) → ℕ → ℕ → ℕ
@@ -38,7 +26,7 @@ unfoldable pub from_left : (ℕ → ℕ) → (ℕ → Bool) → ℕ → ℕ → 
 from_left f b r l zero = []
 from_left f b r l (suc k) =
     put (ltb (before f l) (least f l k) && (ltb (f (suc r)) (least f l k) && some b l k))
-    (record { left = l; right = r; high = least f l k })
+    (record { left = l; right = r; height = least f l k })
     (from_left f b r (suc l) k)
 
 abbrev pub entries_at : (ℕ → ℕ) → (ℕ → Bool) → ℕ → List Entry
@@ -53,7 +41,7 @@ row_entries f b (suc r) = row_entries f b r ++ entries_at f b r
 unfoldable pub stairs_from : (ℕ → ℕ) → ℕ → ℕ → List Stair
 stairs_from f l zero = []
 stairs_from f l (suc k) =
-    put (ltb (before f l) (least f l k)) (record { left = l; high = least f l k }) (stairs_from f (suc l) k)
+    put (ltb (before f l) (least f l k)) (record { left = l; height = least f l k }) (stairs_from f (suc l) k)
 
 -- the stairs over the first x cells
 abbrev pub stairs : (ℕ → ℕ) → ℕ → List Stair
@@ -61,14 +49,14 @@ stairs f x = stairs_from f 0 x
 
 -- WHAT A STEP DOES. The stairs lower than v stay; the first that is not starts the stair of height v, or x does; c says whether there is one
 unfoldable pub pushed : Bool → ℕ → ℕ → List Stair → List Stair
-pushed c v x [] = put c (record { left = x; high = v }) []
-pushed c v x (s ∷ t) = cond (ltb s.high v) (s ∷ pushed c v x t) (put c (record { left = s.left; high = v }) [])
+pushed c v x [] = put c (record { left = x; height = v }) []
+pushed c v x (s ∷ t) = cond (ltb s.height v) (s ∷ pushed c v x t) (put c (record { left = s.left; height = v }) [])
 
 -- the stairs higher than v that start before e leave as entries
 unfoldable pub leaving : ℕ → ℕ → ℕ → List Stair → List Entry
 leaving v e r [] = []
 leaving v e r (s ∷ t) =
-    put (ltb v s.high && ltb s.left e) (record { left = s.left; right = r; high = s.high }) (leaving v e r t)
+    put (ltb v s.height && ltb s.left e) (record { left = s.left; right = r; height = s.height }) (leaving v e r t)
 
 -- one more than the last column with support among the first x, 0 where there is none
 unfoldable pub reach : (ℕ → Bool) → ℕ → ℕ
@@ -80,33 +68,18 @@ unfoldable pub turns : (ℕ → ℕ) → ℕ → ℕ
 turns f zero = 0
 turns f (suc x) = turns f x + cond (ltb (f x) (before f x)) 1 0
 
--- WHAT THE CODE HOLDS: g i .. g (i + n - 1) as a list
-unfoldable pub span : {A : Type 0} → (ℕ → A) → ℕ → ℕ → List A
-span g i zero = []
-span g i (suc n) = g i ∷ span g (suc i) n
+-- WHAT THE CODE HOLDS. The heights of the stairs rise
+abbrev pub no_stair : Stair
+no_stair = record { left = 0; height = 0 }
 
-abbrev pub stair_at : List ℕ → List ℕ → ℕ → Stair
-stair_at sl sh i = record { left = get_or sl i 0; high = get_or sh i 0 }
+abbrev pub Rises : List Stair → Type 0
+Rises s = (i j : ℕ) → i < j → j < length s → (get_or s i no_stair).height < (get_or s j no_stair).height
 
-abbrev pub entry_at : List ℕ → List ℕ → List ℕ → ℕ → Entry
-entry_at ls rs hs i = record { left = get_or ls i 0; right = get_or rs i 0; high = get_or hs i 0 }
-
--- the first n stairs of two lists, the first m entries of three
-abbrev pub stack : List ℕ → List ℕ → ℕ → List Stair
-stack sl sh n = span (stair_at sl sh) 0 n
-
-abbrev pub rows : List ℕ → List ℕ → List ℕ → ℕ → List Entry
-rows ls rs hs m = span (entry_at ls rs hs) 0 m
-
--- sh's first n heights rise
-abbrev pub Rises : List ℕ → ℕ → Type 0
-Rises sh n = (i j : ℕ) → i < j → j < n → get_or sh i 0 < get_or sh j 0
-
--- of sh's first n heights the first k are lower than v, and the next is not
-pub record CutAt (sh : List ℕ) (n v k : ℕ) : Type 0 where
-  pub within : k ≤ n
-  pub low : (j : ℕ) → j < k → get_or sh j 0 < v
-  pub high : k < n → v ≤ get_or sh k 0
+-- the first k of the stairs are lower than v, and the next is not
+pub record CutAt (s : List Stair) (v k : ℕ) : Type 0 where
+  pub within : k ≤ length s
+  pub low : (j : ℕ) → j < k → (get_or s j no_stair).height < v
+  pub high : k < length s → v ≤ (get_or s k no_stair).height
 
 -- the cells lo .. x - 1 have a height: they are empty
 abbrev pub Open : (ℕ → ℕ) → ℕ → ℕ → Type 0

@@ -1,126 +1,83 @@
 // One row, walked once by the staircase: its entries and its corners.
-ghost use Rattle.std.specs.Prelude.{◌≡◌, cond, ◌+◌, ◌-◌, ◌≤◌, ◌<◌, length, ltb, eqb};
-ghost use Rattle.rules.specs.Surface.{Standing, occupied};
-ghost use Rattle.listing.specs.Row.{rows, turns};
+ghost use Rattle.std.specs.Prelude.{◌≡◌, ◌+◌, ◌≤◌, ◌<◌, length, take};
+ghost use Rattle.rules.specs.Surface.{occupied};
+ghost use Rattle.listing.specs.Row.{turns};
 ghost use Rattle.listing.specs.Listed.{height_of, entries_in};
 
+use super::entry::Entry;
 use super::heights::{height_at, rises, run_at, settle, stays};
-use super::stairs::{cut, emit, push};
+use super::stairs::{Stair, cut, emit, push};
+use cells::standing::Surface;
 
 // How many entries and how many corners.
-#[derive(Clone, Copy)]
+#[derive(Clone, Copy, Debug, PartialEq, Eq)]
 pub struct Counts {
     pub entries: usize,
     pub corners: usize,
 }
 
-// The column before x, and 0 before 0.
-fn left_of(x: usize) -> u8
-    requires { x < 256 }
-    ensures { result ≡ x - 1 }
+// The walk. `before` is the height before x. Where the height stays, nothing happens; where it rises, a stair enters; where it falls, the stairs
+// that are higher leave, and the stair of its height enters; an occupied cell is none of the empty ones that end behind it. An occupied run after an
+// occupied cell is skipped by its weight, so x is counted by hand. Past the last column stands 0: all leave. Each fall is a corner. n stairs are held
+// and m entries written; `end` is as far as there is support among the first lo columns, and from lo on all are empty. The surface is copied, so that
+// the loop does not read its fields anew for each cell.
+fn walk(surface: &Surface, y: usize, stairs: &mut [Stair], entries: &mut [Entry]) -> Counts
+    requires y_lt_h { y < surface.now.h }
+    requires stairs_room { surface.now.w ≤ length stairs.old }
+    requires entries_room { surface.now.w ≤ length entries.old }
+    ensures in_bounds { result.entries ≤ length entries.old }
+    ensures entries_after { take result.entries entries.new ≡ entries_in (occupied surface.now.table.now) surface.now.w surface.now.h y }
+    ensures corners_value { result.corners ≡ turns (height_of (occupied surface.now.table.now) surface.now.w y) (surface.now.w + 1) }
 {
-    if x == 0 { 0 } else { (x - 1) as u8 }
-}
-
-// Where the empty cells begin again that end behind column x, of height v: an occupied cell is none of them.
-fn begins(v: u8, x: usize) -> usize
-    requires { x < 64 }
-    ensures { result ≡ cond (eqb v 0) (x + 1) x }
-{
-    if v == 0 { x + 1 } else { x }
-}
-
-// 1 where the height falls to 0 past the last column.
-fn past(u: usize) -> usize
-    ensures { result ≡ cond (ltb 0 u) 1 0 }
-{
-    if u == 0 { 0 } else { 1 }
-}
-
-// The walk. u is the height before x. Where the height stays, nothing happens; where it rises, a stair enters; where it falls, the stairs that are
-// higher leave, and the stair of its height enters. An occupied run after an occupied cell is skipped by its weight. Past the last column stands
-// 0: all leave. Each fall is a corner. sl and sh hold the stairs; e is as far as there is support among the first lo columns, and from lo on all are empty.
-fn walk(
-    w: usize,
-    h: usize,
-    weights: &[i16],
-    table: &[u8],
-    y: usize,
-    sl: &mut [u8],
-    sh: &mut [u8],
-    lefts: &mut [u8],
-    rights: &mut [u8],
-    heights: &mut [u8],
-) -> Counts
-    requires standing { Standing w h weights.now table.now }
-    requires y_lt_h { (y < h) × (w ≤ length sl.old) × (w ≤ length sh.old) }
-    requires w_in_bounds { (w ≤ length lefts.old) × (w ≤ length rights.old) × (w ≤ length heights.old) }
-    ensures entries_after { rows lefts.new rights.new heights.new result.entries ≡ entries_in (occupied table.now) w h y }
-    ensures corners_value { result.corners ≡ turns (height_of (occupied table.now) w y) (w + 1) }
-{
+    let surface = *surface;
+    let w = surface.w;
     let mut n = 0;
     let mut m = 0;
     let mut falls = 0;
-    let mut e = 0u8;
-    let mut u = 0;
+    let mut end = 0;
+    let mut before = 0;
     let mut lo = 0;
     let mut x = 0;
     while x < w {
-        if stays(w, h, weights, table, y, x, u) {
+        if stays(&surface, x, y, before) {
             x += 1;
-        } else if rises(w, h, weights, table, y, x, u) {
-            let v = height_at(w, h, weights, table, y, x);
-            n = push(sl, sh, n, n, v, x as u8);
-            u = v as usize;
+        } else if rises(&surface, x, y, before) {
+            let height = height_at(&surface, x, y);
+            n = push(stairs, n, n, height, x as u8);
+            before = usize::from(height);
             x += 1;
-        } else if u == 0 {
-            x += run_at(w, h, weights, table, y, x);
+        } else if before == 0 {
+            x += run_at(&surface, x, y);
             lo = x;
         } else {
-            let v = height_at(w, h, weights, table, y, x);
-            e = settle(w, h, weights, table, y, lo, x, e);
-            let k = cut(sh, n, v);
-            let r = left_of(x);
-            m = emit(sl, sh, k, n, v, e, r, lefts, rights, heights, m);
-            n = push(sl, sh, k, n, v, x as u8);
-            u = v as usize;
-            lo = begins(v, x);
+            let height = height_at(&surface, x, y);
+            end = settle(&surface, y, lo, x, end);
+            let k = cut(&stairs[..n], height);
+            m = emit(&stairs[k..n], height, end, (x - 1) as u8, entries, m);
+            n = push(stairs, k, n, height, x as u8);
+            before = usize::from(height);
+            lo = x + usize::from(height == 0);
             falls += 1;
             x += 1;
         }
     }
-    e = settle(w, h, weights, table, y, lo, w, e);
-    let last = left_of(w);
-    let all = emit(sl, sh, 0, n, 0, e, last, lefts, rights, heights, m);
+    end = settle(&surface, y, lo, w, end);
+    m = emit(&stairs[..n], 0, end, (w - 1) as u8, entries, m);
     Counts {
-        entries: all,
-        corners: falls + past(u),
+        entries: m,
+        corners: falls + usize::from(before > 0),
     }
 }
 
-// The entries with their bottom row at y, in the order of the list: entry i is lefts[i], rights[i], heights[i]; and how many corners the row has if it is
-// scanned. "A corner is an empty cell of a scanned row that stands in the last column or whose right neighbour has a smaller weight": exactly where
-// the height falls, 0 standing past the last column.
-pub fn row(
-    w: usize,
-    h: usize,
-    weights: &[i16],
-    table: &[u8],
-    y: usize,
-    lefts: &mut [u8],
-    rights: &mut [u8],
-    heights: &mut [u8],
-) -> Counts
-    requires standing { Standing w h weights.now table.now }
-    requires y_lt_h { y < h }
-    requires w_in_bounds { (w ≤ length lefts.old) × (w ≤ length rights.old) × (w ≤ length heights.old) }
-    ensures entries_after { rows lefts.new rights.new heights.new result.entries ≡ entries_in (occupied table.now) w h y }
-    ensures entries_value { (result.entries ≡ length (entries_in (occupied table.now) w h y)) × (result.entries ≤ w) }
-    ensures corners_value { result.corners ≡ turns (height_of (occupied table.now) w y) (w + 1) }
+// The entries with their bottom row at y, in the order of the list; and how many corners the row has if it is scanned. "A corner is an empty cell
+// of a scanned row that stands in the last column or whose right neighbour has a smaller weight": exactly where the height falls, 0 standing past
+// the last column.
+pub fn row(surface: &Surface, y: usize, entries: &mut [Entry]) -> Counts
+    requires y_lt_h { y < surface.now.h }
+    requires w_in_bounds { surface.now.w ≤ length entries.old }
+    ensures entries_after { take result.entries entries.new ≡ entries_in (occupied surface.now.table.now) surface.now.w surface.now.h y }
+    ensures entries_value { (result.entries ≡ length (entries_in (occupied surface.now.table.now) surface.now.w surface.now.h y)) × (result.entries ≤ surface.now.w) }
+    ensures corners_value { result.corners ≡ turns (height_of (occupied surface.now.table.now) surface.now.w y) (surface.now.w + 1) }
 {
-    let mut sl = [0u8; 64];
-    let mut sh = [0u8; 64];
-    walk(
-        w, h, weights, table, y, &mut sl, &mut sh, lefts, rights, heights,
-    )
+    walk(surface, y, &mut [Stair::NONE; 64], entries)
 }

@@ -1,80 +1,72 @@
-// The stairs of document 000 over the columns walked so far, in two lists: where each starts, and its height.
-ghost use Rattle.std.specs.Prelude.{◌≡◌, cond, ◌++◌, ◌+◌, ◌-◌, ◌≤◌, ◌<◌, length, get_or, ltb};
-ghost use Rattle.listing.specs.Row.{stair_at, stack, rows, span, pushed, leaving, Rises, CutAt};
+// The stairs of document 000 over the columns walked so far: held, put in, and leaving as entries.
+ghost use Rattle.std.specs.Prelude.{◌≡◌, ◌++◌, ◌+◌, ◌≤◌, ◌<◌, length, take, ltb};
+ghost use Rattle.listing.specs.Row.{pushed, leaving, Rises, CutAt};
 
-// How many of the first n heights are lower than v: they rise, so the count goes down from the top.
-pub fn cut(sh: &[u8], n: usize, v: u8) -> usize
-    requires n_in_bounds { n ≤ length sh.now }
-    requires rises { Rises sh.now n }
-    ensures { CutAt sh.now n v result }
-{
-    let mut k = n;
-    while 0 < k {
-        let p = k - 1;
-        if sh[p] < v {
-            return k;
-        }
-        k = p;
-    }
-    k
+use super::entry::Entry;
+
+// A stair: where it starts, and its height.
+#[derive(Clone, Copy, Debug, PartialEq, Eq)]
+pub struct Stair {
+    pub left: u8,
+    pub height: u8,
 }
 
-// Where the stair of height v starts: where the first that is not lower does, or at x.
-fn first(sl: &[u8], k: usize, n: usize, x: u8) -> u8
-    requires { n ≤ length sl.now }
-    ensures { result ≡ cond (ltb k n) (get_or sl.now k 0) x }
-{
-    if k < n { sl[k] } else { x }
+impl Stair {
+    // What stands in a place of an array that holds no stair yet.
+    pub const NONE: Stair = Stair { left: 0, height: 0 };
 }
 
-// The stair of height v goes in at k.
-pub fn push(sl: &mut [u8], sh: &mut [u8], k: usize, n: usize, v: u8, x: u8) -> usize
-    requires n_in_bounds { n ≤ length sl.old }
-    requires k_in_bounds { 0 < v → (k < length sl.old) × (k < length sh.old) }
-    requires cut_at { CutAt sh.old n v k }
-    ensures { stack sl.new sh.new result ≡ pushed (ltb 0 v) v x (stack sl.old sh.old n) }
+// How many of the stairs are lower than the height: they rise, so the count goes down from the top.
+pub fn cut(stairs: &[Stair], height: u8) -> usize
+    requires rises { Rises stairs.now }
+    ensures { CutAt stairs.now height result }
 {
-    if v == 0 {
+    stairs
+        .iter()
+        .rposition(|stair| stair.height < height)
+        .map_or(0, |k| k + 1)
+}
+
+// A stair goes in at k, of the first n stairs those before k being lower: it starts where the first that is not lower does, or at x. Where the
+// height is 0 none does.
+pub fn push(stairs: &mut [Stair], k: usize, n: usize, height: u8, x: u8) -> usize
+    requires n_in_bounds { n ≤ length stairs.old }
+    requires k_in_bounds { 0 < height → k < length stairs.old }
+    requires cut_at { CutAt (take n stairs.old) height k }
+    ensures in_bounds { result ≤ length stairs.old }
+    ensures stairs_after { take result stairs.new ≡ pushed (ltb 0 height) height x (take n stairs.old) }
+{
+    if height == 0 {
         return k;
     }
-    let l = first(sl, k, n, x);
-    sl[k] = l;
-    sh[k] = v;
+    let left = if k < n { stairs[k].left } else { x };
+    stairs[k] = Stair { left, height };
     k + 1
 }
 
-// Those of the stairs k .. n - 1 that are higher than v and start before e are entries with the right column r. A stair as high as v stays.
+// Those of the stairs that are higher than `height` and start before `end` are entries with the right column `right`: they go in from place n on.
 pub fn emit(
-    sl: &[u8],
-    sh: &[u8],
-    k: usize,
+    stairs: &[Stair],
+    height: u8,
+    end: u8,
+    right: u8,
+    entries: &mut [Entry],
     n: usize,
-    v: u8,
-    e: u8,
-    r: u8,
-    lefts: &mut [u8],
-    rights: &mut [u8],
-    heights: &mut [u8],
-    m: usize,
 ) -> usize
-    requires k_le_n { (k ≤ n) × (n ≤ length sl.now) × (n ≤ length sh.now) }
-    requires k_in_bounds { (m + (n - k) ≤ length lefts.old) × (m + (n - k) ≤ length rights.old) × (m + (n - k) ≤ length heights.old) }
-    ensures { rows lefts.new rights.new heights.new result ≡ rows lefts.old rights.old heights.old m ++ leaving v e r (span (stair_at sl.now sh.now) k (n - k)) }
+    requires { n + length stairs.now ≤ length entries.old }
+    ensures in_bounds { result ≤ length entries.old }
+    ensures entries_after { take result entries.new ≡ take n entries.old ++ leaving height end right stairs.now }
 {
-    let mut i = k;
-    let mut o = m;
-    while i < n {
-        let l = sl[i];
-        let h = sh[i];
-        if v < h {
-            if l < e {
-                lefts[o] = l;
-                rights[o] = r;
-                heights[o] = h;
-                o += 1;
-            }
+    let mut m = n;
+    for stair in stairs {
+        if stair.left < end && height < stair.height {
+            entries[m] = Entry {
+                left: stair.left,
+                right,
+                height: stair.height,
+            };
+            m += 1;
         }
-        i += 1;
     }
-    o
+    m
 }

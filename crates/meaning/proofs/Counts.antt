@@ -13,8 +13,7 @@ use Rattle.rules.specs.Surface.{slots, rect_of, used_slot, used_slots}
 use Rattle.rules.specs.Empties.{scanned, scanned_rows}
 use Rattle.rules.specs.Requests.{step_of, accepted_one, weights_after, table_after}
 use Rattle.rules.specs.Blocks.{started, request, next_by, after_by, after}
-use Rattle.rules.specs.declared.Step.{Step}
-use Rattle.rules.specs.declared.Step.TheVariants.{Refused, Done}
+use Rattle.rules.specs.Refusals.{Step, Refused, Done}
 
 pub used_few : (t : List ℕ) → used_slots t ≤ slots t
 unfolding used_slots

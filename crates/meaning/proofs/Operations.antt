@@ -15,8 +15,7 @@ use Rattle.rules.specs.Judging.{Line, ◌when◌, first}
 use Rattle.meaning.specs.Numbers.{above}
 use Rattle.rules.specs.Requests.{operation, rule_of, id_asked, wide, high, byte6, byte7, is_place, is_remove, is_pin, is_exchange, is_set, by_rule, at_place, needs_old, has_size, zeros, pinned, id_placed, slot_of, some_free, lowest_free, position, rule_place, any_cell_taken, sound_lines, place_lines, judging, accepted_step, judged_to, step_of}
 use Rattle.rules.specs.Place.{place_step, pin_step}
-use Rattle.rules.specs.declared.Step.{Step}
-use Rattle.rules.specs.declared.Step.TheVariants.{Refused, Done}
+use Rattle.rules.specs.Refusals.{Step, Refused, Done}
 use Rattle.rules.proofs.Tests.{or_left, or_right}
 use Rattle.meaning.proofs.First.{first_stop, first_over}
 use Rattle.meaning.specs.Change.{OldModule}

@@ -15,8 +15,7 @@ use Rattle.rules.specs.Judging.{first, NoneApplies}
 use Rattle.meaning.specs.Numbers.{above}
 use Rattle.rules.specs.Requests.{code_of, is_place, is_remove, is_pin, is_exchange, is_set, operation, rule_of, id_low, id_high, id_asked, wide, high, byte6, byte7, known, by_rule, at_place, makes_new, needs_old, has_size, pinned, kind_asked, id_placed, slot_of, some_free, lowest_free, position, rule_place, sound_lines, place_lines, judging, or_none, accepted_step, step_of, record_after, table_after}
 use Rattle.rules.specs.declared.Rect.{Rect}
-use Rattle.rules.specs.declared.Step.{Step}
-use Rattle.rules.specs.declared.Step.TheVariants.{Refused, Done}
+use Rattle.rules.specs.Refusals.{Step, Refused, Done}
 use Rattle.rules.specs.Tests.{between}
 use Rattle.rules.proofs.Tests.{and_left, and_right, or_left, or_right, or_neither}
 use Rattle.meaning.proofs.Splits.{split, by_same, by_or}

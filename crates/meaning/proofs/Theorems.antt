@@ -18,7 +18,7 @@ use Rattle.rules.specs.Requests.{is_set, at_place, position, rule_place, sound_l
 use Rattle.rules.specs.Place.{pin_step}
 use Rattle.rules.specs.Calls.{clear_lines, check_lines, run_lines, list_lines}
 use Rattle.rules.specs.declared.Rect.{Rect}
-use Rattle.rules.specs.declared.Step.TheVariants.{Refused}
+use Rattle.rules.specs.Refusals.{Refused}
 use Rattle.meaning.proofs.Rectangles as R
 use Rattle.meaning.proofs.Order as O
 use Rattle.meaning.proofs.Bound as B

@@ -4,8 +4,7 @@ use Rattle.rules.specs.Surface.{Standing, slots, id_of, rect_of, is_hard, free_r
 use Rattle.rules.specs.Empties.{cells_empty}
 use Rattle.rules.specs.Requests.{id_low, id_high, id_asked, is_remove, is_exchange, makes_new, kind_asked, id_placed, slot_of, lowest_free, step_of}
 use Rattle.rules.specs.declared.Rect.{Rect}
-use Rattle.rules.specs.declared.Step.{Step}
-use Rattle.rules.specs.declared.Step.TheVariants.{Refused}
+use Rattle.rules.specs.Refusals.{Step, Refused}
 
 -- the module lies on the surface
 pub record On (W H : ℕ) (m : Rect) : Type 0 where

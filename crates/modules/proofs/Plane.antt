@@ -24,12 +24,9 @@ pub record Walked {A : Type 0} (W H x n : ℕ) (P : ℕ → A → Type 0) (F G :
   pub done : (d : ℕ) → d < c → x ≤ d → (f : A) → P d f → Holds W H d (F d f) s₀ → Holds W H d (G d f) s
   pub rest : (d r : ℕ) → d < W → (d < x) ⊎ (c ≤ d) → cell W s d r ≡ cell W s₀ d r
 
-module _ {A : Type 0} (W H x n : ℕ) (P : ℕ → A → Type 0) (F G : ℕ → A → ℕ → ℕ) where
-  pub walk_none : (s : List ℤ) → Walked W H x n P F G x s s
-  walk_none s = record { from = omega arith; upto = omega arith; long = refl; done = λ d l u. absurd (omega arith); rest = λ d r hd o. refl }
-
-  pub walk_more : (c : ℕ) (s₀ s t : List ℤ) → Walked W H x n P F G c s₀ s → c < x + n → x + n ≤ W → Only W c s t → ((f : A) → P c f → Holds W H c (F c f) s → Holds W H c (G c f) t) → Walked W H x n P F G (c + 1) s₀ t
-  walk_more c s₀ s t d l fits o told =
+module _ {A : Type 0} {W H x n : ℕ} {P : ℕ → A → Type 0} {F G : ℕ → A → ℕ → ℕ} where
+  pub walk_more : {c : ℕ} {s₀ s t : List ℤ} → Walked W H x n P F G c s₀ s → c < x + n → x + n ≤ W → Only W c s t → ((f : A) → P c f → Holds W H c (F c f) s → Holds W H c (G c f) t) → Walked W H x n P F G (c + 1) s₀ t
+  walk_more {c} {s₀} {s} {t} d l fits o told =
       record {
         from = omega (arith, d.from);
         upto = omega arith;
@@ -86,15 +83,15 @@ module _ {A : Type 0} (W H x n : ℕ) (P : ℕ → A → Type 0) (F G : ℕ → 
       others : (c < x) ⊎ (x + n ≤ c) → cell W s c r ≡ weight_in (q c) r
       others o = d.rest c r hc (⊎_elim (λ (lo : c < x). inl lo) (λ (hi : x + n ≤ c). inr (omega (arith, d.upto))) o) ∙ h c hc r hr ∙ weight_same (p c) (q c) r (λ i _. out c o i)
 
-module _ (W H : ℕ) (m : Rect) (s₀ s : List ℤ) where
-  pub add_all : (g : ℕ → ℕ) (k : ℕ) → Adding W H m g k s₀ s → m.x + m.w ≤ k → Added W H m g s₀ s
-  add_all g k a l = record {
+module _ {W H : ℕ} {m : Rect} {s₀ s : List ℤ} where
+  pub add_all : {g : ℕ → ℕ} {k : ℕ} → Adding W H m g k s₀ s → m.x + m.w ≤ k → Added W H m g s₀ s
+  add_all {g} {k} a l = record {
     long = a.long;
     told = λ f. walk_all W H m.x m.w _ _ _ k s₀ s a l f f (beside m g f) (λ c lo hi. (tt, (λ r. refl), λ r. sym (beside_in m g f c lo hi r))) (λ c o r. sym (beside_out m g f c o r));
   }
 
-  pub remove_all : (k : ℕ) → Removing W H m k s₀ s → m.x + m.w ≤ k → Removed W H m s₀ s
-  remove_all k a l = record {
+  pub remove_all : {k : ℕ} → Removing W H m k s₀ s → m.x + m.w ≤ k → Removed W H m s₀ s
+  remove_all {k} a l = record {
     long = a.long;
     told = λ g f z. walk_all W H m.x m.w _ _ _ k s₀ s a l (λ c. (g c, f c)) (beside m g f) f
         (λ c lo hi. ((λ r b e. z c r (covers_in m c lo hi r ∙ within_yes m.y m.h r b e)), (λ r. beside_in m g f c lo hi r), λ r. refl))

@@ -1,31 +1,29 @@
 -- Tests and sums of bytes: the bytes that must be zero. And the lines of 11 to 17 and 23 in two parts. Assumes nothing.
-use mathlib.Core.Path.{◌≡◌, refl, sym, ap, ◌∙◌}
-use mathlib.Core.Bool.{Bool, true, false, not, ◌&&◌, ◌||◌, and-true, and-false}
-use mathlib.Core.Logic.{⊎_elim}
+use mathlib.Core.Path.{◌≡◌, refl, sym, ap, ap₂, ◌∙◌}
+use mathlib.Core.Bool.{Bool, true, false, not, cond, ◌&&◌, ◌||◌, and-true, and-false}
+use mathlib.Core.Logic.{◌⊎◌, ⊎_elim}
 use mathlib.Core.List.{List, [], ◌∷◌, ◌++◌}
 use Prim.Native.Nat.{ℕ, zero, suc, ◌+◌}
 use native.Mathlib.Omega.{arith}
-use borrow.Author.Tests.{ne_eqb, ltb-true, ltb-false, lt-leb, le-leb}
+use borrow.Author.Tests.{ne_eqb, ltb-true, ltb-false, lt-leb, le-leb, lt-ltb, le-ltb}
+use Rattle.std.proofs.Common.{Option, Some, None, IfSome, ◌<◌, ◌≤◌, true≢false, rules}
+use Rattle.std.specs.Option.{is_some, IsSome}
+use Rattle.table.specs.Slot.{found_below, slot_or}
+use Rattle.requests.specs.Operation.{operation_number, Asks}
+use Rattle.requests.specs.declared.operation.Operation.{Operation}
+use Rattle.requests.specs.declared.operation.Operation.TheVariants.{Place, Remove, Pin, Exchange, Set}
 use lib.Dec.{leb, ltb, eqb}
-use Rattle.rules.specs.Tests.{all}
-use Rattle.rules.specs.Requests.{is_remove, at_place, by_rule, rule_of, id_asked, wide, high, byte6, byte7, zeros, slot_of, sound_lines}
-use Rattle.rules.proofs.Tests.{decide}
+use Rattle.rules.specs.Tests.{all, between}
+use Rattle.rules.specs.Surface.{slots, is_hard}
+use Rattle.rules.specs.Requests.{operation, known, makes_new, needs_old, has_size, is_remove, at_place, by_rule, rule_of, id_asked, wide, high, byte6, byte7, zeros, has_id, slot_of, sound_lines}
+use Rattle.rules.proofs.Tests.{decide, least_is}
 use Rattle.rules.specs.Judging.{first}
 use Rattle.meaning.specs.Numbers.{above}
-use Rattle.meaning.proofs.First.{first_stop, first_over}
+use Rattle.meaning.proofs.First.{first_stop, first_over, first_past, first_end}
 use Rattle.meaning.proofs.Tables.{slot_placed}
 use Rattle.requests.specs.Steps.{stray, form_lines, id_lines}
 
 -- ---- Bools
-
-pub and_no : (a b : Bool) → a ≡ false → (a && b) ≡ false
-and_no a b e = ap (λ c. c && b) e
-
-pub and_is : (a b c : Bool) → a ≡ true → b ≡ c → (a && b) ≡ c
-and_is a b c e f = ap (λ d. d && b) e ∙ f
-
-pub or_is : (a b c : Bool) → a ≡ false → b ≡ c → (a || b) ≡ c
-or_is a b c e f = ap (λ d. d || b) e ∙ f
 
 pub over : (a n : ℕ) → ltb a n ≡ not (leb n a)
 over a n = ⊎_elim (λ (e : ltb a n ≡ true). e ∙ sym (ap not (lt-leb n a (ltb-true a n e)))) (λ (e : ltb a n ≡ false). e ∙ sym (ap not (le-leb n a (ltb-false a n e)))) (decide (ltb a n))
@@ -66,10 +64,6 @@ module _ (q : List ℕ) where
   unfolding stray zeros
   stray_rule a b e f g ea eb = sum_is (a + b) (byte6 q ∷ byte7 q ∷ []) (omega arith) ∙ rw (e, f, g)
 
-  pub stray_none : is_remove q ≡ false → at_place q ≡ false → by_rule q ≡ false → false ≡ stray q
-  unfolding stray zeros all
-  stray_none e f g = rw (e, f, g)
-
 -- ---- the lines of 11 to 17 and 23, in two parts
 
 module _ (t q : List ℕ) where
@@ -84,3 +78,77 @@ module _ (t q : List ℕ) where
   -- or the slot of its id decides
   pub id_decides : (c d i : ℕ) → c ≡ first (form_lines q) → c ≡ 0 → i ≡ slot_of t (id_asked q) → d ≡ first (id_lines t q i) → d ≡ first (sound_lines t q)
   id_decides c d i e z f g = g ∙ sym (ap first (sound_lines_lem i f) ∙ first_over (form_lines q) (id_lines t q i) (unfold above in refl) (sym e ∙ z))
+
+-- ---- a test of a request's operation, by the operation that it asks for
+
+abbrev known_number : ℕ → Bool
+known_number n = between 1 4 n || eqb n 6
+
+module _ (q : List ℕ) (o : Operation) (asks : Asks q o) where
+  pub told : {A : Type 0} (test : ℕ → A) (p : Operation) → o ≡ p → test (operation q) ≡ test (operation_number p)
+  told test p e = sym (ap test (sym (ap operation_number e) ∙ asks))
+
+  pub there_told : (o ≡ Pin) ⊎ (o ≡ Set) → (is_remove q ≡ false) × (at_place q ≡ true)
+  there_told = ⊎_elim (λ e. (told (λ n. eqb n 2) Pin e, told (λ n. eqb n 3 || eqb n 6) Pin e)) (λ e. (told (λ n. eqb n 2) Set e, told (λ n. eqb n 3 || eqb n 6) Set e))
+
+  pub rule_told : (o ≡ Place) ⊎ (o ≡ Exchange) → (is_remove q ≡ false) × ((at_place q ≡ false) × (by_rule q ≡ true))
+  rule_told = ⊎_elim
+      (λ e. (told (λ n. eqb n 2) Place e, (told (λ n. eqb n 3 || eqb n 6) Place e, told (λ n. eqb n 1 || eqb n 4) Place e)))
+      (λ e. (told (λ n. eqb n 2) Exchange e, (told (λ n. eqb n 3 || eqb n 6) Exchange e, told (λ n. eqb n 1 || eqb n 4) Exchange e)))
+
+  -- an operation that there is
+  pub known_told : known q ≡ true
+  known_told = go o refl
+    where
+      go : (p : Operation) → o ≡ p → known q ≡ true
+      go Place e = told known_number Place e
+      go Remove e = told known_number Remove e
+      go Pin e = told known_number Pin e
+      go Exchange e = told known_number Exchange e
+      go Set e = told known_number Set e
+
+-- ---- the slot of its id
+
+-- a slot was found exactly when its number is one of the n that there are
+pub found : (n : ℕ) (slot : Option ℕ) → IfSome slot (λ i. i < n) → is_some slot ≡ ltb (slot_or n slot) n
+found n None h = sym (le-ltb n n (omega arith))
+found n (Some i) h = sym (lt-ltb i n h)
+
+-- the slot of an id is one of the table's, or their number
+pub slot_most : (t : List ℕ) (id : ℕ) → slot_of t id ≤ slots t
+unfolding slot_of
+slot_most t id = omega (arith, (least_is (slots t) (has_id t id)).upto)
+
+-- a slot that is looked for, by its number
+pub slot_told : (n i : ℕ) (slot : Option ℕ) → i ≤ n → slot ≡ found_below n i → slot_or n slot ≡ i
+slot_told n i slot h e = ap (slot_or n) e ∙ go (ltb i n) refl
+  where
+    go : (b : Bool) → ltb i n ≡ b → slot_or n (cond b (Some i) None) ≡ i
+    go true f = refl
+    go false f = omega (arith, h, ltb-false i n f)
+
+-- where no code of the slot's lines applies, an operation that needs the old module has its slot
+pub slot_there : (t q : List ℕ) (slot : Option ℕ) → needs_old q ≡ true → 0 ≡ first (id_lines t q (slot_or (slots t) slot)) → IsSome slot
+unfolding first
+slot_there t q (Some i) f e = search rules
+slot_there t q None f e = absurd (go (makes_new q && ltb (slots t) (slots t)) (needs_old q) (ltb (slots t) (slots t)) _ f (le-ltb (slots t) (slots t) (omega arith)) e)
+  where
+    go : (a b d : Bool) (rest : ℕ) → b ≡ true → d ≡ false → ◌≡◌ {A = ℕ} 0 (cond a 15 (cond (b && not d) 16 rest)) → ⊥
+    go true b d rest p r z = omega (arith, z)
+    go false true false rest p r z = omega (arith, z)
+    go false true true rest p r z = true≢false r
+    go false false d rest p r z = true≢false (sym p)
+
+-- an operation that there is not has none of them
+pub none_asked : (t q : List ℕ) (i : ℕ) → known q ≡ false → ◌≡◌ {A = ℕ} 0 (first (id_lines t q i))
+none_asked t q i e =
+    let new : makes_new q ≡ false = ap₂ ◌||◌ (other 1 refl) (ap₂ ◌||◌ (other 3 refl) (other 6 refl)) in
+    let old : needs_old q ≡ false = ap₂ ◌||◌ (other 2 refl) (other 4 refl) in
+    let size : has_size q ≡ false = ap₂ ◌||◌ (ap₂ ◌||◌ (other 1 refl) (other 4 refl)) (ap₂ ◌||◌ (other 3 refl) (other 6 refl)) in
+    first_past _ _ _ _ (ap (λ b. b && ltb i (slots t)) new)
+    (first_past _ _ _ _ (ap (λ b. b && not (ltb i (slots t))) old)
+    (first_past _ _ _ _ (ap (λ b. b && is_hard t i) old)
+    (first_past _ _ _ _ (ap (λ b. b && (eqb (wide q) 0 || eqb (high q) 0)) size) first_end)))
+  where
+    other : (n : ℕ) → known_number n ≡ true → eqb (operation q) n ≡ false
+    other n k = ne_eqb (operation q) n (λ z. true≢false (sym k ∙ sym (ap known_number z) ∙ e))

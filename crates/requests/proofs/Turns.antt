@@ -1,23 +1,21 @@
 -- The requests of a block in turn: the state after the first k is what the code has. Assumes nothing.
+use Rattle.std.proofs.Common.{Bool, true, false, cond}
+use mir.Val.{bool_byte as from_bool}
 use mathlib.Core.Path.{◌≡◌, refl, sym, ap, ap₂, ◌∙◌, subst}
-use mathlib.Core.List.{List, ◌++◌, append-nil}
+use mathlib.Core.List.{List, ◌++◌}
 use Prim.Native.Nat.{ℕ, zero, suc, ◌+◌, ◌-◌, ◌*◌, ◌≤◌}
 use native.Mathlib.Omega.{arith}
 use lib.IntN.{ℤ}
-use lib.ListN.{length, take, drop, drop_of_length-le, length-append}
+use lib.ListN.{length, take, drop, length-append}
 use borrow.Rule.Slice.PartMut.{put_mid, Post-is}
 use Rattle.cells.proofs.Parts.{put_part}
-use Rattle.rules.specs.Surface.{Standing}
 use Rattle.rules.specs.Requests.{step_of, answer_of, table_after, weights_after, accepted_one}
 use Rattle.rules.specs.Blocks.{State, started, request, after, after_by, next_by}
-use Rattle.rules.specs.declared.Step.{Step}
-use Rattle.rules.specs.declared.Step.TheVariants.{Refused, Done}
-use Rattle.requests.specs.Steps.{Served, bytes_at, ServedAt, Ran}
-use Rattle.requests.proofs.Accepted.{served_stands}
+use Rattle.rules.specs.Refusals.{Step, Refused, Done}
+use Rattle.requests.specs.Steps.{Served, bytes_at, ServedAt}
 
 -- the first k requests are run
 pub record RanTo (W H : ℕ) (s₀ : List ℤ) (t₀ b a₀ : List ℕ) (k : ℕ) (s : List ℤ) (t a : List ℕ) (n : ℕ) : Type 0 where
-  pub stands : Standing W H s t
   pub weights : s ≡ (after W H b (started s₀ t₀) k).weights
   pub table : t ≡ (after W H b (started s₀ t₀) k).table
   pub answers : a ≡ (after W H b (started s₀ t₀) k).answers ++ drop (8 * k) a₀
@@ -40,9 +38,9 @@ module _ (W H : ℕ) (s₀ : List ℤ) (t₀ b a₀ : List ℕ) where
   abbrev state : ℕ → State
   state k = after W H b (started s₀ t₀) k
 
-  pub ran_none : Standing W H s₀ t₀ → RanTo W H s₀ t₀ b a₀ 0 s₀ t₀ a₀ 0
+  pub ran_none : RanTo W H s₀ t₀ b a₀ 0 s₀ t₀ a₀ 0
   unfolding after_by
-  ran_none d = record { stands = d; weights = refl; table = refl; answers = refl; accepted = refl; few = omega arith }
+  ran_none = record { weights = refl; table = refl; answers = refl; accepted = refl; few = omega arith }
 
   pub answers_long : (k : ℕ) → length (state k).answers ≡ 8 * k
   unfolding after_by next_by
@@ -59,7 +57,6 @@ module _ (W H : ℕ) (s₀ : List ℤ) (t₀ b a₀ : List ℕ) where
       let X = (state k).answers in
       let e8 : 8 * k + 8 ≡ 8 * suc k = omega arith in
       record {
-        stands = served_stands W H q s t s' t' p m r.stands (record { weights = v.weights; table = v.table; answer = refl; accepted = v.accepted });
         weights = v.weights ∙ ap₂ (λ x y. weights_after W H q (step_of W H y q) y x) r.weights r.table;
         table = v.table ∙ ap (λ y. table_after q (step_of W H y q) y) r.table;
         answers = v.answers ∙ ap (λ l. take (8 * k) l ++ (p ++ drop (8 * k + 8) l)) r.answers
@@ -70,10 +67,7 @@ module _ (W H : ℕ) (s₀ : List ℤ) (t₀ b a₀ : List ℕ) where
         few = omega (arith, r.few, v.accepted, one_most (step_of W H t q));
       }
 
-  pub ran_all : (n : ℕ) (s : List ℤ) (t a : List ℕ) (m : ℕ) → length a₀ ≡ 8 * n → RanTo W H s₀ t₀ b a₀ n s t a m → Ran (state n) s t a m
-  ran_all n s t a m e r = record {
-    weights = r.weights;
-    table = r.table;
-    answers = r.answers ∙ ap (λ l. (state n).answers ++ l) (drop_of_length-le a₀ {i = 8 * n} (omega arith)) ∙ append-nil (state n).answers;
-    accepted = r.accepted;
-  }
+-- 1 for a request that is accepted, 0 else: as std counts a Bool
+pub bit : (b : Bool) → from_bool b ≡ cond b 1 0
+bit true = refl
+bit false = refl

@@ -1,2 +1,5 @@
 -- What judging, serving and running leave.
+pub mod Operation
+pub mod Accepted
 pub mod Steps
+pub mod SurfaceMut

@@ -1,15 +1,14 @@
 -- WHAT JUDGING ASKS, AND WHAT SERVING AND RUNNING LEAVE, in the words of the rules. q is a request's eight bytes; s and t are weights and table before, s' and t' after.
-use Rattle.std.specs.Prelude.{◌≡◌, Bool, not, cond, ◌&&◌, ◌||◌, List, [], ◌∷◌, ◌++◌, ℕ, ◌+◌, ◌≤◌, ltb, eqb, ℤ, length, take, drop}
+use Rattle.std.specs.Prelude.{◌≡◌, Bool, not, cond, ◌&&◌, ◌||◌, List, [], ◌∷◌, ◌++◌, ℕ, ◌+◌, ltb, eqb, ℤ, take, drop}
 use Rattle.std.proofs.Math.Option.{Option, none, some}
 use Rattle.rules.specs.Tests.{all}
-use Rattle.rules.specs.Surface.{Standing, slots, is_hard}
+use Rattle.rules.specs.Surface.{slots, is_hard}
 use Rattle.rules.specs.Empties.{cells_empty}
 use Rattle.rules.specs.Judging.{Line, ◌when◌, first}
 use Rattle.rules.specs.Requests.{rule_of, id_asked, wide, high, known, by_rule, makes_new, needs_old, has_size, zeros, sound_lines, step_of, answer_of, table_after, weights_after, accepted_one}
 use Rattle.rules.specs.Blocks.{State}
 use Rattle.rules.specs.declared.Rect.{Rect}
-use Rattle.rules.specs.declared.Step.{Step}
-use Rattle.rules.specs.declared.Step.TheVariants.{Refused, Done}
+use Rattle.rules.specs.Refusals.{Step, Refused, Done}
 
 -- a byte that must be zero is not
 unfoldable pub stray : List ℕ → Bool
@@ -57,13 +56,7 @@ pub record Served (W H : ℕ) (q : List ℕ) (s : List ℤ) (t : List ℕ) (s' :
 abbrev pub bytes_at : List ℕ → ℕ → List ℕ
 bytes_at q at = take 8 (drop at q)
 
--- the request there may be served: the surface stands, and the answers have the same place
-pub record Turn (W H : ℕ) (q : List ℕ) (at : ℕ) (s : List ℤ) (t a : List ℕ) : Type 0 where
-  pub stands : Standing W H s t
-  pub inside : at + 8 ≤ length q
-  pub long : length a ≡ length q
-
--- it is served, and answered in that place: the other answers are as they were
+-- the request there is served, and answered in the same place of the answers: the others are as they were
 pub record ServedAt (W H : ℕ) (q : List ℕ) (at : ℕ) (s : List ℤ) (t a : List ℕ) (s' : List ℤ) (t' a' : List ℕ) (n : ℕ) : Type 0 where
   pub weights : s' ≡ weights_after W H (bytes_at q at) (step_of W H t (bytes_at q at)) t s
   pub table : t' ≡ table_after (bytes_at q at) (step_of W H t (bytes_at q at)) t

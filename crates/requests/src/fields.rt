@@ -11,7 +11,7 @@ pub fn byte(q: &[u8], k: usize) -> usize
     requires { k < length q.now }
     ensures { (result ≡ get_or q.now k 0) × (result < 256) }
 {
-    table::wide(q[k])
+    usize::from(q[k])
 }
 
 // 12: a byte that must be zero is not, one of these five. Bytes are all zero exactly when their sum is.
@@ -26,7 +26,7 @@ pub fn id_asked(q: &[u8]) -> usize
     requires { length q.now ≡ 8 }
     ensures { (result ≡ id_asked q.now) × (result < 65536) }
 {
-    byte(q, 2) + 256 * byte(q, 3)
+    usize::from(u16::from_le_bytes([q[2], q[3]]))
 }
 
 // "3 pin: byte 6 is x, byte 7 is y"; 6 "takes the fields of a pin".

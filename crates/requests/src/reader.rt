@@ -1,9 +1,9 @@
 // "The block of requests is walked by a reader that holds the lent block and its place in it." A reader is the block and the offset of the next
 // request. The work is `serve_at`'s, which takes a plain slice and a number.
-ghost use Rattle.std.specs.Prelude.{◌≡◌, ◌+◌, ◌≤◌, ltb, length};
-ghost use Rattle.requests.specs.Steps.{Turn, ServedAt};
+ghost use Rattle.std.specs.Prelude.{◌≡◌, cond, ◌+◌, ◌≤◌, ltb, length};
+ghost use Rattle.requests.specs.SurfaceMut.{Kept, ServesAt};
 
-use super::serve::serve;
+use super::serve::SurfaceMut;
 
 #[derive(Clone, Copy)]
 pub struct Reader<'a> {
@@ -36,35 +36,21 @@ pub fn next<'a>(r: Reader<'a>) -> Reader<'a>
     }
 }
 
-// The request at an offset of a block, answered in "its own part of the answers": the eight bytes at the same offset. The three buffers stand at one
-// lifetime, so that a turn of the walk lends all three at once.
-fn serve_at<'a, 'k>(
-    block: &'a [u8],
-    at: usize,
-    w: usize,
-    h: usize,
-    s: &'k mut [i16],
-    t: &'k mut [u8],
-    a: &'k mut [u8],
-) -> usize
-    requires { Turn w h block.now at s.old t.old a.old }
-    ensures { ServedAt w h block.now at s.old t.old a.old s.new t.new a.new result }
+// The request at an offset of a block, answered in "its own part of the answers": the eight bytes at the same offset.
+fn serve_at(block: &[u8], at: usize, surface: &mut SurfaceMut, a: &mut [u8]) -> bool
+    requires { (at + 8 ≤ length block.now) × (length a.old ≡ length block.now) }
+    ensures kept { Kept surface.old surface.new }
+    ensures served { ServesAt surface.old surface.new block.now at a.old a.new (cond result 1 0) }
 {
     let end = at + 8;
-    serve(w, h, s, t, &block[at..end], &mut a[at..end])
+    surface.serve(&block[at..end], &mut a[at..end])
 }
 
 // The request that the reader stands at is served. The reader stays where it is.
-pub fn serve_next<'a, 'k>(
-    r: Reader<'a>,
-    w: usize,
-    h: usize,
-    s: &'k mut [i16],
-    t: &'k mut [u8],
-    a: &'k mut [u8],
-) -> usize
-    requires { Turn w h r.block.now r.at s.old t.old a.old }
-    ensures { ServedAt w h r.entry.block.now r.entry.at s.old t.old a.old s.new t.new a.new result }
+pub fn serve_next(r: Reader, surface: &mut SurfaceMut, a: &mut [u8]) -> bool
+    requires { (r.at + 8 ≤ length r.block.now) × (length a.old ≡ length r.block.now) }
+    ensures kept { Kept surface.old surface.new }
+    ensures served { ServesAt surface.old surface.new r.entry.block.now r.entry.at a.old a.new (cond result 1 0) }
 {
-    serve_at(r.block, r.at, w, h, s, t, a)
+    serve_at(r.block, r.at, surface, a)
 }

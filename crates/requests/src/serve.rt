@@ -1,22 +1,25 @@
 // One request: judged, the change made, and answered in the eight bytes lent for it.
-ghost use Rattle.std.specs.Prelude.{◌≡◌, [], ◌∷◌, length};
-ghost use Rattle.rules.specs.Surface.{Standing, with_record, fresh};
-ghost use Rattle.rules.specs.Requests.{operation, id_low, id_high, kind_asked, code_of, answer_of, record_after};
-ghost use Rattle.rules.specs.declared.Step.TheVariants.{Refused};
+ghost use Rattle.std.specs.Prelude.{◌≡◌, [], ◌∷◌, cond, length, IfOk};
+ghost use Rattle.rules.specs.Surface.{Standing, with_record};
+ghost use Rattle.rules.specs.Requests.{operation, id_low, id_high, code_of, step_of, answer_of, record_after};
+ghost use Rattle.rules.specs.Refusals.{Refused};
 ghost use Rattle.table.specs.Record.{Bytes};
 ghost use Rattle.meaning.specs.Change.{Change};
-ghost use Rattle.requests.specs.Steps.{Served};
+ghost use Rattle.requests.specs.Operation.{Asks};
+ghost use Rattle.requests.specs.Accepted.{as_step};
 
+use super::accepted::Accepted;
 use super::judge::judge;
-use super::sound::either;
-use rules::{Rect, Step};
+use cells::standing::Surface;
+use rules::{Rect, Refusal};
+use table::Record;
 
-fn code_of(d: Step) -> u8
-    ensures { result ≡ code_of d }
+fn code_of(step: Result<Accepted, Refusal>) -> u8
+    ensures { result ≡ code_of (as_step step) }
 {
-    match d {
-        Step::Refused(c) => c,
-        Step::Done(_, _) => 0,
+    match step {
+        Ok(_) => 0,
+        Err(refusal) => refusal.code(),
     }
 }
 
@@ -26,17 +29,9 @@ pub fn answer(q: &[u8], a: &mut [u8], code: u8, r: Rect)
     requires bytes { Bytes r }
     ensures { a.new ≡ code ∷ operation q.now ∷ id_low q.now ∷ id_high q.now ∷ r.x ∷ r.y ∷ r.w ∷ r.h ∷ [] }
 {
-    table::put_eight(
-        a,
-        code,
-        q[0],
-        q[2],
-        q[3],
-        table::byte_of(r.x),
-        table::byte_of(r.y),
-        table::byte_of(r.w),
-        table::byte_of(r.h),
-    );
+    let Rect { x, y, w, h } = r;
+    let bytes = [code, q[0], q[2], q[3], x as u8, y as u8, w as u8, h as u8];
+    table::put_eight(a, bytes);
 }
 
 // The answer of what is refused: "A refusal has four zeros there."
@@ -53,45 +48,73 @@ pub fn refuse(q: &[u8], a: &mut [u8], code: u8)
     answer(q, a, code, none);
 }
 
-// The kind of what a request puts in: "0 a module, 1 a block".
-fn kind_asked(q: &[u8]) -> u8
-    requires { length q.now ≡ 8 }
-    ensures { result ≡ kind_asked q.now }
-{
-    if q[0] == 6 {
-        return 1;
-    }
-    0
+// A surface that stands, lent for changing; `cells::standing::Surface` is the one lent for reading. It stands whenever no module is just being put in or taken out: each of
+// those calls writes weights and table.
+#[derive(Drop)]
+pub struct SurfaceMut<'a> {
+    pub w: usize,
+    pub h: usize,
+    pub weights: &'a mut [i16],
+    pub table: &'a mut [u8],
+    ghost standing: { Standing w h weights.now table.now },
 }
 
-// Operations 2 and 4 take the module of slot i out. All but 2 put the module r, or the block, in, under the request's id: an exchange into the slot that is free now, so the record stays in
-// its slot. Both halves of an exchange are of one request: "the old one goes when the new one stands", and no host sees what is between.
-fn change(w: usize, h: usize, s: &mut [i16], t: &mut [u8], q: &[u8], i: usize, r: Rect)
-    requires q_len { length q.now ≡ 8 }
-    requires change { Change w h s.old t.old q.now i r }
-    ensures t_after { t.new ≡ with_record t.old i (record_after q.now r) }
-    ensures s_after { s.new ≡ fresh w h t.new }
-{
-    if either(q, 2, 4) {
-        modules::take_out(w, h, s, t, i);
-    }
-    if q[0] != 2 {
-        modules::put_in(w, h, s, t, i, q[2], q[3], r, kind_asked(q));
-    }
-}
+impl SurfaceMut<'_> {
+    ghost use Rattle.requests.specs.SurfaceMut.{Kept, Serves};
 
-// "A refused request changes neither weights nor table": refusal leads straight to its answer. The result is 1 where it is accepted.
-pub fn serve(w: usize, h: usize, s: &mut [i16], t: &mut [u8], q: &[u8], a: &mut [u8]) -> usize
-    requires standing { Standing w h s.old t.old }
-    requires q_len { (length q.now ≡ 8) × (length a.old ≡ 8) }
-    ensures { Served w h q.now s.old t.old s.new t.new a.new result }
-{
-    let d = judge(w, h, s, t, q);
-    let Step::Done(i, r) = d else {
-        refuse(q, a, code_of(d));
-        return 0;
-    };
-    change(w, h, s, t, q, i, r);
-    answer(q, a, 0, r);
-    1
+    // What the request comes to, on the surface lent for reading.
+    fn judge(&self, q: &[u8]) -> Result<Accepted, Refusal>
+        requires { length q.now ≡ 8 }
+        ensures step { as_step result ≡ step_of self.now.w self.now.h self.now.table.now q.now }
+        ensures asks { IfOk result (λ a. Asks q.now a.operation) }
+    {
+        let surface = Surface {
+            w: self.w,
+            h: self.h,
+            weights: self.weights,
+            table: self.table,
+        };
+        judge(&surface, q)
+    }
+
+    // Operations 2 and 4 take the module of the slot out. All but 2 put the module, or the block, in, under the request's id: an exchange into the slot that is free now, so the record
+    // stays in its slot. Both halves of an exchange are of one request: "the old one goes when the new one stands", and no host sees what is between.
+    fn change(&mut self, q: &[u8], accepted: Accepted)
+        requires q_len { length q.now ≡ 8 }
+        requires asks { Asks q.now accepted.operation }
+        requires change { Change self.old.w self.old.h self.old.weights.now self.old.table.now q.now accepted.slot accepted.rect }
+        ensures kept { Kept self.old self.new }
+        ensures changed { self.new.table.now ≡ with_record self.old.table.now accepted.slot (record_after q.now accepted.rect) }
+    {
+        let operation = accepted.operation;
+        let slot = accepted.slot;
+        if operation.needs_old() {
+            modules::take_out(self.w, self.h, self.weights, self.table, slot);
+        }
+        if !operation.is_remove() {
+            let record = Record {
+                id_low: q[2],
+                id_high: q[3],
+                rect: accepted.rect,
+                kind: operation.kind(),
+            };
+            modules::put_in(self.w, self.h, self.weights, self.table, slot, record);
+        }
+    }
+
+    // "A refused request changes neither weights nor table": refusal leads straight to its answer. The result is whether it is accepted.
+    pub fn serve(&mut self, q: &[u8], a: &mut [u8]) -> bool
+        requires { (length q.now ≡ 8) × (length a.old ≡ 8) }
+        ensures kept { Kept self.old self.new }
+        ensures served { Serves self.old self.new q.now a.new (cond result 1 0) }
+    {
+        let step = self.judge(q);
+        let Ok(accepted) = step else {
+            refuse(q, a, code_of(step));
+            return false;
+        };
+        self.change(q, accepted);
+        answer(q, a, 0, accepted.rect);
+        true
+    }
 }

@@ -1,2 +1,3 @@
--- Laws of the tests: what they tell, and what they are told by.
+-- `Tests`: laws of the tests, what they tell and what they are told by. `Refusals`: a refusal has a code.
 pub mod Tests
+pub mod Refusals

@@ -2,7 +2,7 @@
 -- the block goes on."
 use Rattle.std.specs.Prelude.{List, [], ◌++◌, ℕ, zero, suc, ◌+◌, ◌*◌, ◌/◌, ℤ, length, take, drop}
 use Rattle.rules.specs.Requests.{step_of, answer_of, table_after, weights_after, accepted_one}
-use Rattle.rules.specs.declared.Step.{Step}
+use Rattle.rules.specs.Refusals.{Step}
 
 -- what a block has left so far: weights, table, the answers written, how many requests were accepted
 pub record State : Type 0 where

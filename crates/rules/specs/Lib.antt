@@ -3,6 +3,7 @@ pub mod Tests
 pub mod Surface
 pub mod Empties
 pub mod Judging
+pub mod Refusals
 pub mod Requests
 pub mod Place
 pub mod Blocks

@@ -7,8 +7,7 @@ use Rattle.rules.specs.Surface.{occupied}
 use Rattle.rules.specs.Empties.{cells_empty}
 use Rattle.rules.specs.Judging.{Line, ◌when◌, first}
 use Rattle.rules.specs.Requests.{rule_of, id_asked, wide, high, byte6, byte7, pinned, id_placed, some_free, lowest_free, position, rule_place, any_cell_taken, or_none, judged_to}
-use Rattle.rules.specs.declared.Step.{Step}
-use Rattle.rules.specs.declared.Step.TheVariants.{Done}
+use Rattle.rules.specs.Refusals.{Step, Done}
 
 abbrev pub place_number_lines : ℕ → ℕ → List ℕ → ℕ → ℕ → ℕ → ℕ → List Line
 place_number_lines W H t id rule w h =

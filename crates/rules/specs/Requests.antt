@@ -6,8 +6,7 @@ use Rattle.rules.specs.Surface.{rect, slots, id_of, rect_of, is_hard, record_of,
 use Rattle.rules.specs.Empties.{cells_empty, empty, entries, area}
 use Rattle.rules.specs.Judging.{Line, ◌when◌, first}
 use Rattle.rules.specs.declared.Rect.{Rect}
-use Rattle.rules.specs.declared.Step.{Step}
-use Rattle.rules.specs.declared.Step.TheVariants.{Refused, Done}
+use Rattle.rules.specs.Refusals.{Step, Refused, Done}
 
 -- ---- "A request is 8 bytes: operation, rule, id low, id high, w, h, then bytes 6 and 7."
 

@@ -1,10 +1,9 @@
 -- Requests as one block of the library. Assumes nothing.
 use mathlib.Core.Path.{◌≡◌, refl, sym, ap, ap₂, ◌∙◌, subst, subst⁻¹}
-use mathlib.Core.Bool.{true, false, ◌||◌}
+use mathlib.Core.Bool.{false, ◌||◌}
 use mathlib.Core.List.{List, ◌++◌}
-use mathlib.Core.Logic.{⊎_elim}
 use Prim.Native.Nat.{ℕ, zero, suc, ◌+◌, ◌-◌, ◌*◌, ◌≤◌, ◌<◌}
-use native.Mathlib.Nat.{add-zero, eq-or-lt_of_le}
+use native.Mathlib.Nat.{add-zero}
 use native.Mathlib.Omega.{arith}
 use lib.Dec.{eqb}
 use lib.IntN.{ℤ}
@@ -13,6 +12,9 @@ use lib.Seq.{drop-append-add, take_all, get_or-take, get_or-drop}
 use Rattle.rules.specs.Surface.{Standing}
 use Rattle.rules.specs.Requests.{operation, answer_of, step_of, weights_after, table_after}
 use Rattle.rules.specs.Blocks.{State, started, next, request, after, after_by, next_by}
+use borrow.Author.Tests.{eq-eqb}
+use Rattle.std.specs.Prelude.{Option, None, Some, MatchOption, ⊤}
+use Rattle.std.specs.Option.{unwrap_or}
 use Rattle.rules.proofs.Tests.{not_both}
 use Rattle.cells.proofs.Parts.{part_long}
 use Rattle.meaning.proofs.Steps.{after_stands}
@@ -63,7 +65,7 @@ module _ (b : List ℕ) (w h : ℕ) (s : List ℤ) (t : List ℕ) (ready : Ready
   block_answered n r (suc k) l =
       ap₂ ◌++◌ (block_answered n r k (omega arith)) (ap (answer_to (request b k)) (block_kept n r k (omega arith)) ∙ one_answered (request b k) (at k) (r k (omega arith)))
 
-  pub block_served : (p : List ℤ) (t' a : List ℕ) (n : ℕ) → Requests b (records b) → Ran (at (records b)) p t' a n → length t' ≡ length t →
+  block_served : (p : List ℤ) (t' a : List ℕ) (n : ℕ) → Requests b (records b) → Ran (at (records b)) p t' a n → length t' ≡ length t →
       ServedAll b z w h (onto (w * h) p s) t' a
   block_served p t' a n r v lt =
       let k = records b in
@@ -74,6 +76,12 @@ module _ (b : List ℕ) (w h : ℕ) (s : List ℤ) (t : List ℕ) (ready : Ready
         answers = v.answers ∙ sym (block_answered k r k (omega arith));
         ready = front_ready w h p s t' d ready.long (lt ∙ ready.slots);
       }
+
+  -- the surface of m cells as the code lends it
+  pub block_lent : (m : ℕ) → m ≡ w * h → (p : List ℤ) (t' a : List ℕ) (n : ℕ) → Requests b (records b) → Ran (after w h b (started (take m s) t) (records b)) p t' a n → length t' ≡ length t →
+      ServedAll b z w h (onto m p s) t' a
+  block_lent m e p t' a n r v lt =
+      subst⁻¹ (λ m. ServedAll b z w h (onto m p s) t' a) e (block_served p t' a n r (subst (λ m. Ran (after w h b (started (take m s) t) (records b)) p t' a n) e v) lt)
 
 -- one record
 alone : (b : List ℕ) → length b ≡ 8 → request b 0 ≡ b
@@ -91,22 +99,26 @@ one_served b z w h s t a e v =
 
 -- ---- how many are served together
 
-pub operation_at : (b : List ℕ) (k : ℕ) → operation (request b k) ≡ get_or b (8 * k) 0
+operation_at : (b : List ℕ) (k : ℕ) → operation (request b k) ≡ get_or b (8 * k) 0
 operation_at b k = get_or-take 8 (drop (8 * k) b) 0 0 (omega arith) ∙ get_or-drop (8 * k) b 0 0 ∙ ap (λ i. get_or b i 0) (add-zero (8 * k))
 
-pub one_request_more : (b : List ℕ) (m : ℕ) → Requests b m → (get_or b (8 * m) 0 ≡ 5 → ⊥) → Requests b (m + 1)
-one_request_more b m r n j l e =
-    let le : j ≤ m = omega arith in
-    ⊎_elim (λ (i : j ≡ m). n (sym (operation_at b m) ∙ ap (λ k. operation (request b k)) (sym i) ∙ e)) (λ (i : j < m). r j i e) (eq-or-lt_of_le le)
+-- requests are served together up to the first clear behind them, or all n
+pub up_to_clear : (w n : ℕ) (b : List ℕ) → 1 ≤ n → apart w b ≡ false → (r : Option ℕ) →
+    MatchOption r ((k : ℕ) → 1 ≤ k → k < n → eqb (get_or b (8 * k) 0) 5 ≡ false) (λ i. (1 ≤ i) × (i < n) × ⊤ × ((k : ℕ) → 1 ≤ k → k < i → eqb (get_or b (8 * k) 0) 5 ≡ false)) →
+    (1 ≤ unwrap_or r n) × (unwrap_or r n ≤ n) × Together w b (unwrap_or r n)
+up_to_clear w n b one e r h = by r h
+  where
+    upto : (m : ℕ) → ((k : ℕ) → 1 ≤ k → k < m → eqb (get_or b (8 * k) 0) 5 ≡ false) → Together w b m
+    upto m f = record { alone = λ a. not_both _ a e; requests = λ _. those }
+      where
+        those : Requests b m
+        those zero l o = absurd ((not_apart w b e).1 (sym (operation_at b 0) ∙ o))
+        those (suc j) l o = not_both _ (eq-eqb _ 5 (sym (operation_at b (suc j)) ∙ o)) (f (suc j) (omega arith) l)
 
-pub first_request : (w : ℕ) (b : List ℕ) → apart w b ≡ false → Requests b 1
-first_request w b e = one_request_more b 0 (λ j l o. omega arith) (not_apart w b e).1
-
-pub alone_together : (w : ℕ) (b : List ℕ) → apart w b ≡ true → Together w b 1
-alone_together w b e = record { alone = λ _. refl; requests = λ f. not_both (apart w b) e f }
-
-pub requests_together : (w : ℕ) (b : List ℕ) (m : ℕ) → apart w b ≡ false → Requests b m → Together w b m
-requests_together w b m e r = record { alone = λ f. not_both (apart w b) f e; requests = λ _. r }
+    by : (o : Option ℕ) → MatchOption o ((k : ℕ) → 1 ≤ k → k < n → eqb (get_or b (8 * k) 0) 5 ≡ false) (λ i. (1 ≤ i) × (i < n) × ⊤ × ((k : ℕ) → 1 ≤ k → k < i → eqb (get_or b (8 * k) 0) 5 ≡ false)) →
+        (1 ≤ unwrap_or o n) × (unwrap_or o n ≤ n) × Together w b (unwrap_or o n)
+    by None h = (one, omega arith, upto n h)
+    by (Some i) h = (h.0, omega (arith, h.1), upto i h.3)
 
 -- of the records behind, those of the part: the first is the same
 pub part_together : (b : List ℕ) (k m : ℕ) (fit : 8 * k + 8 * m ≤ length b) (w : ℕ) → 1 ≤ m → Together w (behind b k m fit) m → Together w (part b k m fit) m
@@ -129,9 +141,6 @@ from b k = take (length b - 8 * k) (drop (8 * k) b)
 
 from_long : (b : List ℕ) (k : ℕ) → length (from b k) ≡ length b - 8 * k
 from_long b k = ap length (from_is b (8 * k)) ∙ length-drop (8 * k) b
-
-pub from_whole : (b : List ℕ) (k n : ℕ) → length b ≡ 8 * n → k < n → n ≤ 512 → (length (from b k) ≡ 8 * records (from b k)) × (1 ≤ records (from b k)) × (records (from b k) ≤ 512)
-from_whole b k n e l m = let f = from_long b k in (omega (arith, f, e, l), omega (arith, f, e, l), omega (arith, f, e, l, m))
 
 pub from_fits : (b : List ℕ) (k m : ℕ) → 8 * k ≤ length b → m ≤ records (from b k) → 8 * k + 8 * m ≤ length b
 from_fits b k m l h = omega (arith, from_long b k, l, h)

@@ -13,8 +13,7 @@ use Rattle.rules.specs.Tests.{all}
 use Rattle.rules.specs.Requests.{operation, rule_of, id_low, id_high, wide, high, byte6, byte7, step_of, code_of, answer_of}
 use Rattle.rules.specs.Blocks.{request}
 use Rattle.rules.specs.Calls.{bad_size}
-use Rattle.rules.specs.declared.Step.{Step}
-use Rattle.rules.specs.declared.Step.TheVariants.{Refused, Done}
+use Rattle.rules.specs.Refusals.{Step, Refused, Done}
 use Rattle.rules.proofs.Tests.{and_left, and_right}
 use Rattle.meaning.proofs.Steps.{refused_code}
 use Rattle.meaning.proofs.Codes.{good_size}
@@ -22,13 +21,10 @@ use Rattle.demands.specs.History.{code_in}
 use Rattle.demands.proofs.Blocks.{record_at}
 use Rattle.stream.specs.Records.{Kept, stray_clear, clear_record_code, answer_to, next_record, after_records, answers_to}
 use Rattle.stream.specs.Promise.{AcceptedClear}
-use Rattle.stream.proofs.Laws.{code_is, clear_refused, clear_done, none_yet, on_surface_lem, sizes_told}
+use Rattle.stream.proofs.Laws.{code_as, clear_refused, clear_done, none_yet, on_surface_lem, sizes_told}
 use Rattle.stream.proofs.Turns.{answers_long}
 
 -- ---- 12, then 1
-
-code_as : (q : List ℕ) → clear_record_code q ≡ cond (stray_clear q) 12 (cond (bad_size (wide q) (high q)) 1 0)
-code_as q = sym (code_is q _ _ refl refl _ _ refl refl)
 
 abbrev Codes : Bool → Bool → ℕ → Type 0
 Codes s b c = ((c ≡ 12) ↔ (s ≡ true)) × ((c ≡ 1) ↔ ((s ≡ false) × (b ≡ true))) × ((c ≡ 0) ↔ ((s ≡ false) × (b ≡ false)))

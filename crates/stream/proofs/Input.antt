@@ -100,20 +100,20 @@ unfolding after_reads
 reads_more [] c y = refl
 reads_more (d ∷ cs) c y = reads_more cs c (served (y.held ++ d) y)
 
--- into the buffer b, behind the m bytes that are held in it, so that b' has n; the whole records among these are served, and the rest carried
-pub so_far_more : {w h w' h' : ℕ} {s s' : List ℤ} {t t' : List ℕ} (m n k : ℕ) (b b' d : List ℕ) →
-    SoFar w h s t (take m b) → m ≤ n → n ≤ length b' → take m b' ≡ take m b →
-    let q = take (8 * (n / 8)) b' in
+-- into the buffer b, behind the m bytes that are held in it, so that b' has n; the j bytes that are whole records are served, and the rest carried
+pub so_far_more : {w h w' h' : ℕ} {s s' : List ℤ} {t t' : List ℕ} (m n j k : ℕ) (b b' d : List ℕ) →
+    SoFar w h s t (take m b) → m ≤ n → n ≤ length b' → take m b' ≡ take m b → j ≡ 8 * (n / 8) →
+    let q = take j b' in
     Holds (after_records q (kept w h s t) (records q)) w' h' s' t' → k ≡ n % 8 → d ≡ carried n b' → SoFar w' h' s' t' (take k d)
-so_far_more m n k b b' d p hm hn e r ek ed =
+so_far_more m n j k b b' d p hm hn e ej r ek ed =
     let c = take (n - m) (drop m b') in
     let y = after_reads p.reads (begun first_kept) in
     let f : n ≡ m + (n - m) = omega arith in
     let g : take n b' ≡ y.held ++ c = ap (λ k. take k b') f ∙ take-add m (n - m) b' ∙ ap (λ l. l ++ c) (e ∙ p.held) in
-    let u = lent_whole n b' hn ∙ ap whole g in
+    let u = ap (λ j. take j b') ej ∙ lent_whole n b' hn ∙ ap whole g in
     let v = sym (reads_more p.reads c (begun first_kept)) in
     record {
       reads = p.reads ++ c ∷ [];
-      state = held_is _ _ _ _ _ r ∙ (λ j. after_records (u j) (p.state j) (records (u j))) ∙ ap (λ (z : Reading). z.state) v;
+      state = held_is _ _ _ _ _ r ∙ (λ i. after_records (u i) (p.state i) (records (u i))) ∙ ap (λ (z : Reading). z.state) v;
       held = ap₂ take ek ed ∙ carried_rest n b' hn ∙ ap rest g ∙ ap (λ (z : Reading). z.held) v;
     }

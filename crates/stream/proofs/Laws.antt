@@ -3,23 +3,27 @@ use mathlib.Core.Path.{◌≡◌, refl, sym, ap, ap₂, ◌∙◌, subst, subst�
 use mathlib.Core.Bool.{Bool, true, false, not, ◌||◌, cond}
 use mathlib.Core.Logic.{⊎_elim}
 use mathlib.Core.List.{List}
-use Prim.Native.Nat.{ℕ, ◌*◌, ◌≤◌}
+use Rattle.std.specs.Prelude.{Option, Some, None}
+use Rattle.std.specs.Option.{is_some}
+use Prim.Native.Nat.{ℕ, ◌*◌}
 use native.Mathlib.Omega.{arith}
-use borrow.Author.Tests.{eqb-true, eq-eqb, ne_eqb}
+use borrow.Author.Tests.{eqb-true, eqb-false, eq-eqb, ne_eqb}
 use lib.Dec.{eqb}
 use lib.IntN.{ℤ}
 use lib.ListN.{length, take, drop, length-append, length-drop, length-replicate}
-use lib.Seq.{take_at, length-take-le}
+use lib.Seq.{take_at}
 use Rattle.rules.specs.Judging.{first, NoneApplies}
 use Rattle.meaning.specs.Numbers.{above}
-use Rattle.rules.specs.Surface.{Standing, rect}
+use Rattle.rules.specs.Surface.{Sides, Standing, rect}
 use Rattle.rules.specs.Requests.{operation, wide, high, answer_of}
 use Rattle.rules.specs.Calls.{bad_size, bad_table, size_lines, clear_lines, clear_code, cleared_weights, cleared_table}
-use Rattle.rules.specs.declared.Step.TheVariants.{Refused, Done}
-use Rattle.rules.proofs.Tests.{or_which, or_neither, not_both}
+use Rattle.rules.specs.Refusals.{Refused, Done}
+use Rattle.rules.proofs.Tests.{or_which, or_right, or_neither, not_both}
 use Rattle.meaning.proofs.First.{none_applies}
-use Rattle.meaning.proofs.Codes.{area}
+use Rattle.meaning.proofs.Codes.{area, good_size}
 use Rattle.demands.proofs.Stands.{cleared_stands}
+use Rattle.stream.specs.declared.size.Size.{Size}
+use Rattle.stream.specs.Size.{columns_of, rows_of}
 use Rattle.stream.specs.Records.{Kept, kept, onto, is_clear, stray_clear, clear_record_lines, clear_record_code, request_step, after_request, record_step, next_record}
 use Rattle.stream.specs.Promise.{Ready, Holds, Served, apart}
 
@@ -30,19 +34,34 @@ size_only : (W H : ℕ) → first (size_lines false W H 2048) ≡ cond (bad_size
 unfolding first bad_table
 size_only W H = refl
 
-told : (b : Bool) → not (eqb (cond b 1 0) 0) ≡ b
-told true = refl
-told false = refl
-
-pub size_told : (W H n : ℕ) → n ≡ first (size_lines (not (eqb (W * H) (1 * (W * H)))) W H 2048) → not (eqb n 0) ≡ bad_size W H
-size_told W H n e =
+-- of W and H as the code reads them, and their refusal n
+size_code : (W H n : ℕ) → n ≡ first (size_lines (not (eqb (W * H) (1 * (W * H)))) W H 2048) → n ≡ cond (bad_size W H) 1 0
+size_code W H n e =
     let right : eqb (W * H) (1 * (W * H)) ≡ true = eq-eqb (W * H) (1 * (W * H)) (omega arith) in
-    ap (λ k. not (eqb k 0)) (e ∙ ap (λ b. first (size_lines (not b) W H 2048)) right ∙ size_only W H) ∙ told (bad_size W H)
+    e ∙ ap (λ b. first (size_lines (not b) W H 2048)) right ∙ size_only W H
 
--- 12, then 1; W and H are the bytes as they were read
-pub code_is : (q : List ℕ) (W H : ℕ) → W ≡ wide q → H ≡ high q → (s b : Bool) → stray_clear q ≡ s → bad_size W H ≡ b → cond s 12 (cond b 1 0) ≡ clear_record_code q
-unfolding clear_record_code clear_record_lines first
-code_is q W H eW eH s b e f = ap₂ (λ x y. cond x 12 (cond y 1 0)) (sym e) (sym f ∙ ap₂ bad_size eW eH)
+-- 12, then 1
+module _ (q : List ℕ) where
+  pub code_stray : stray_clear q ≡ true → 12 ≡ clear_record_code q
+  unfolding clear_record_code clear_record_lines first
+  code_stray e = sym (ap (λ x. cond x 12 (cond (bad_size (wide q) (high q)) 1 0)) e)
+
+  -- W and H are the bytes as they were read
+  pub code_sized : (W H n : ℕ) → stray_clear q ≡ false → W ≡ wide q → H ≡ high q → n ≡ first (size_lines (not (eqb (W * H) (1 * (W * H)))) W H 2048) → n ≡ clear_record_code q
+  unfolding clear_record_code clear_record_lines first
+  code_sized W H n e eW eH f = size_code W H n f ∙ ap₂ (λ x y. cond (bad_size x y) 1 0) eW eH ∙ sym (ap (λ x. cond x 12 (cond (bad_size (wide q) (high q)) 1 0)) e)
+
+  pub code_as : clear_record_code q ≡ cond (stray_clear q) 12 (cond (bad_size (wide q) (high q)) 1 0)
+  unfolding clear_record_code clear_record_lines first
+  code_as = refl
+
+told : (b : Bool) → ◌≡◌ {A = ℕ} 0 (cond b 1 0) → b ≡ false
+told true e = absurd (omega arith)
+told false e = refl
+
+-- a size that is not refused
+pub size_good : (W H : ℕ) → 0 ≡ first (size_lines (not (eqb (W * H) (1 * (W * H)))) W H 2048) → Sides W H
+size_good W H e = good_size W H (told (bad_size W H) (size_code W H 0 e))
 
 -- ---- a record by its four ways
 
@@ -67,14 +86,32 @@ module _ (q : List ℕ) (z : Kept) where
 
 -- ---- which are served by themselves
 
-pub apart_is : (w : ℕ) (q : List ℕ) (b : Bool) → eqb w 0 ≡ b → b || is_clear q ≡ apart w q
+pub other : (q : List ℕ) → is_clear q ≡ false → operation q ≡ 5 → ⊥
+other q = eqb-false (operation q) 5
+
+-- before there is a surface, each
+pub apart_none : (o : Option Size) (q : List ℕ) → is_some o ≡ false → apart (columns_of o) q ≡ true
 unfolding apart
-apart_is w q b e = sym (ap (λ x. x || is_clear q) e)
+apart_none None q e = refl
+apart_none (Some z) q e = not_both true refl e
+
+-- then a clear
+apart_on : (z : Size) (q : List ℕ) → is_clear q ≡ apart z.columns q
+unfolding apart
+apart_on z q = sym (ap (λ x. x || is_clear q) (ne_eqb z.columns 0 (λ n. omega (arith, z.sides.wide))))
+
+pub apart_some : (o : Option Size) (q : List ℕ) (b : Bool) → is_some o ≡ true → b ≡ is_clear q → b ≡ apart (columns_of o) q
+apart_some None q b e f = not_both false e refl
+apart_some (Some z) q b e f = f ∙ apart_on z q
+
+pub apart_clear : (w : ℕ) (q : List ℕ) → is_clear q ≡ true → apart w q ≡ true
+unfolding apart
+apart_clear w q e = or_right (eqb w 0) (is_clear q) e
 
 -- one that is no clear
-pub apart_other : (w : ℕ) (q : List ℕ) → apart w q ≡ true → (operation q ≡ 5 → ⊥) → w ≡ 0
+pub apart_other : (w : ℕ) (q : List ℕ) → apart w q ≡ true → is_clear q ≡ false → w ≡ 0
 unfolding apart
-apart_other w q e n = eqb-true w 0 (⊎_elim (λ a. a) (λ b. not_both (is_clear q) b (ne_eqb (operation q) 5 n)) (or_which (eqb w 0) (is_clear q) e))
+apart_other w q e n = eqb-true w 0 (⊎_elim (λ a. a) (λ b. not_both (is_clear q) b n) (or_which (eqb w 0) (is_clear q) e))
 
 -- the others are requests on a surface
 pub not_apart : (w : ℕ) (q : List ℕ) → apart w q ≡ false → (w ≡ 0 → ⊥) × (operation q ≡ 5 → ⊥)
@@ -138,10 +175,10 @@ pub refused_served : (q : List ℕ) (w h : ℕ) (s : List ℤ) (t a : List ℕ) 
     a ≡ answer_of q (Refused c) → Served q z w h s t a
 refused_served q w h s t a c e f r ea = record { holds = held (next_record q (kept w h s t)) w h s t e; answer = ea ∙ sym (ap (answer_of q) f); ready = r }
 
--- ---- requests of the library
+-- ---- on a surface
 
-pub fits_room : (w h : ℕ) (s : List ℤ) (t : List ℕ) → Ready w h s t → (w ≡ 0 → ⊥) → (w * h ≤ 4096) × (w * h ≤ length s) × (w * h ≡ length (take (w * h) s))
-fits_room w h s t r n =
-    let d = r.stands n in
-    let m = area w h d.sides in
-    let l : w * h ≤ length s = omega (arith, r.long) in (m, l, sym (length-take-le (w * h) s l))
+pub on_size : (o : Option Size) (z : Size) (s : List ℤ) (t : List ℕ) → o ≡ Some z → Ready (columns_of o) (rows_of o) s t → Ready z.columns z.rows s t
+on_size o z s t e r = subst (λ o. Ready (columns_of o) (rows_of o) s t) e r
+
+pub stands_on : (z : Size) (s : List ℤ) (t : List ℕ) → Ready z.columns z.rows s t → Standing z.columns z.rows (take (z.columns * z.rows) s) t
+stands_on z s t r = r.stands (λ n. omega (arith, z.sides.wide))

@@ -1,10 +1,10 @@
 -- The records of a piece in turn. Assumes nothing.
 use mathlib.Core.Path.{◌≡◌, refl, sym, ap, ap₂, ◌∙◌, subst, subst⁻¹}
-use mathlib.Core.List.{List, ◌++◌, append-nil}
+use mathlib.Core.List.{List, ◌++◌}
 use Prim.Native.Nat.{ℕ, zero, suc, ◌+◌, ◌-◌, ◌*◌, ◌≤◌}
 use native.Mathlib.Omega.{arith}
 use lib.IntN.{ℤ}
-use lib.ListN.{length, take, drop, drop_of_length-le, length-append, length-drop}
+use lib.ListN.{length, take, drop, length-append}
 use borrow.Rule.Slice.PartMut.{put_mid}
 use Rattle.cells.proofs.Parts.{put_part}
 use Rattle.stream.specs.Records.{Kept, kept, records, after_records, answers_to}
@@ -45,18 +45,5 @@ module _ (b : List ℕ) (z : Kept) (a₀ : List ℕ) where
         answers = e ∙ ap (λ l. put_mid (8 * k) (8 * k + 8 * m - 8 * k) l p) r.answers ∙ put_part (answers_to b z k) a₀ p (8 * k) (8 * m) (answers_long b z k)
             ∙ ap (λ l. (answers_to b z k ++ l) ++ drop (8 * k + 8 * m) a₀) (u.answers ∙ ap (answers_to c y) n)
             ∙ ap₂ (λ l j. l ++ drop j a₀) (sym (answers_part b k m fit z)) d;
-        ready = u.ready;
-      }
-
-  -- the answers keep their length
-  pub served_long : (k n w h : ℕ) (s : List ℤ) (t a : List ℕ) → k ≤ n → length a₀ ≡ 8 * n → ServedTo b z a₀ k w h s t a → length a ≡ 8 * n
-  served_long k n w h s t a l e r = ap length r.answers ∙ simp (length-append, length-drop, answers_long b z k) (omega arith)
-
-  pub all_served : (k w h : ℕ) (s : List ℤ) (t a : List ℕ) → k ≡ records b → length a₀ ≡ 8 * records b → ServedTo b z a₀ k w h s t a → ServedAll b z w h s t a
-  all_served k w h s t a l e r =
-      let u : ServedTo b z a₀ (records b) w h s t a = subst (λ j. ServedTo b z a₀ j w h s t a) l r in
-      record {
-        holds = u.holds;
-        answers = u.answers ∙ ap (λ x. answers_to b z (records b) ++ x) (drop_of_length-le a₀ {i = 8 * records b} (omega arith)) ∙ append-nil (answers_to b z (records b));
         ready = u.ready;
       }

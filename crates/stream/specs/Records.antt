@@ -8,8 +8,7 @@ use Rattle.rules.specs.Requests.{operation, rule_of, id_low, id_high, wide, high
 use Rattle.rules.specs.Blocks.{request}
 use Rattle.rules.specs.Empties.{corners}
 use Rattle.rules.specs.Calls.{bad_size, cleared_weights, cleared_table, entries_of, room_after}
-use Rattle.rules.specs.declared.Step.{Step}
-use Rattle.rules.specs.declared.Step.TheVariants.{Refused, Done}
+use Rattle.rules.specs.Refusals.{Step, Refused, Done}
 
 -- what is kept between records: W and H, both 0 while there is no surface; a room for weights, the surface's W-as-H from its start; the table
 pub record Kept : Type 0 where

@@ -1,40 +1,31 @@
 // At the end of the input: the list.
-ghost use Rattle.std.specs.Prelude.{◌≡◌, ℕ, ◌*◌, ◌<◌, length};
-ghost use Rattle.rules.specs.Calls.{result_of};
-ghost use Rattle.stream.specs.Records.{kept};
-ghost use Rattle.stream.specs.Promise.{Ready, ListedBy};
+ghost use Rattle.std.specs.Prelude.{◌≡◌, length};
+ghost use Rattle.stream.specs.Promise.{ListedBy};
+ghost use Rattle.stream.specs.Memory.{kept_in};
 
+use super::memory::Memory;
+use cells::standing::Surface;
 use listing::list::list_standing;
+use listing::row::Counts;
 
-// How many entries and corners the list has.
-#[derive(Clone, Copy)]
-pub struct Listed {
-    pub entries: usize,
-    pub corners: usize,
-}
-
-// The counts of a result.
-fn counts(r: u64) -> Listed
-    ensures { (e c : ℕ) → e < 65536 → r ≡ result_of 0 e c → (result.entries ≡ e) × (result.corners ≡ c) }
-{
-    Listed {
-        entries: (r / 65536 % 65536) as usize,
-        corners: (r / 4294967296) as usize,
-    }
-}
-
-// The list of the surface that is kept, as records from the start of the room, and its counts. The room takes the longest list, so 7 is never given.
-pub fn list_kept(w: usize, h: usize, s: &[i16], t: &[u8], room: &mut [u8]) -> Listed
-    requires ready { Ready w h s.now t.now }
-    requires room_len { length room.old ≡ 32768 }
-    ensures { ListedBy (kept w h s.now t.now) room.old result.entries result.corners room.new }
-{
-    if w == 0 {
-        return Listed {
-            entries: 0,
-            corners: 0,
+impl Memory {
+    // The list of the surface that is kept, as records from the start of the room, and its counts. The room takes the longest list, so 7 is never given.
+    pub fn list_kept(&self, room: &mut [u8]) -> Counts
+        requires { length room.old ≡ 32768 }
+        ensures { ListedBy (kept_in self.now) room.old result.entries result.corners room.new }
+    {
+        let Some(size) = self.size else {
+            return Counts {
+                entries: 0,
+                corners: 0,
+            };
         };
+        let surface = Surface {
+            w: size.columns,
+            h: size.rows,
+            weights: &self.weights[..size.cells()],
+            table: &self.table,
+        };
+        list_standing(&surface, room).unwrap()
     }
-    let n = w * h;
-    counts(list_standing(w, h, &s[..n], t, room))
 }

@@ -15,8 +15,10 @@ use Rattle.cells.specs.Weight.{same_weights}
 use Rattle.cells.proofs.Laws.{same_equal, equal_same}
 use Rattle.surface.specs.Slots.{table_stands}
 use Rattle.surface.specs.Examine.{Tells, WorkedOut}
-use Rattle.surface.specs.declared.examine.Examined.{Examined}
-use Rattle.surface.specs.declared.examine.Examined.TheVariants.{Stands, Falls}
+use Rattle.rules.proofs.Refusals.{coded}
+use Rattle.rules.specs.declared.Refusal.{Refusal}
+use Rattle.rules.specs.declared.Refusal.TheVariants.{DoesNotStand}
+use Rattle.std.specs.Prelude.{cond, Result, Ok, Err}
 
 -- ---- the scratch
 
@@ -31,20 +33,30 @@ part n l m h e = sym (length-take-le n l (omega (arith, e)))
 
 -- ---- the answer, by whether the surface stands
 
-pub stood : (b : Bool) (t : List ℕ) (r : Examined) (u : ℕ) → Tells b t r → r ≡ Stands u → (b ≡ true) × (u ≡ used_slots t)
+pub stood : (b : Bool) (t : List ℕ) (r : Result ℕ Refusal) (u : ℕ) → Tells b t r → r ≡ Ok u → (b ≡ true) × (u ≡ used_slots t)
 stood true t r u a e = (refl, (subst (Tells true t) e a).used)
 stood false t r u a e = absurd (let z : ◌≡◌ {A = ℕ} 0 6 = (subst (Tells false t) e a).code in omega arith)
 
-pub fallen : (b : Bool) (t : List ℕ) (r : Examined) → Tells b t r → r ≡ Falls → b ≡ false
-fallen true t r a e = absurd (let z : ◌≡◌ {A = ℕ} 6 0 = (subst (Tells true t) e a).code in omega arith)
-fallen false t r a e = refl
+pub fallen : (b : Bool) (t : List ℕ) (r : Result ℕ Refusal) (f : Refusal) → Tells b t r → r ≡ Err f → b ≡ false
+fallen true t r f a e = absurd (omega (arith, coded f, (subst (Tells true t) e a).code))
+fallen false t r f a e = refl
+
+-- it is refused with code 6, whatever else is said to fall with it
+pub falls_so : (b d : Bool) (t : List ℕ) (f : Refusal) → Tells b t (Err f) → d ≡ false → Tells d t (Err f)
+falls_so true d t f a e = absurd (omega (arith, coded f, a.code))
+falls_so false d t f a e = rw e a
 
 module _ (b : Bool) (t : List ℕ) where
-  pub stands_is : (u : ℕ) → b ≡ true → u ≡ used_slots t → Tells b t (Stands u)
+  pub stands_is : (u : ℕ) → b ≡ true → u ≡ used_slots t → Tells b t (Ok u)
   stands_is u e q = record { code = rw e; used = rw e q }
 
-  pub falls_is : b ≡ false → Tells b t Falls
+  pub falls_is : b ≡ false → Tells b t (Err DoesNotStand)
   falls_is e = record { code = rw e; used = rw e }
+
+-- code 0, so it stands
+pub no_code : (b : Bool) → ◌≡◌ {A = ℕ} 0 (cond b 0 6) → b ≡ true
+no_code true e = refl
+no_code false e = absurd (omega arith)
 
 -- ---- the surface stands exactly when its table does and the lent weights are those worked out
 
@@ -62,10 +74,12 @@ module _ (W H : ℕ) (s : List ℤ) (t : List ℕ) where
       (decide (same_weights (fresh W H t) s))
 
 -- what was worked out, where the table falls and where it stands, with u slots used
-module _ (W H : ℕ) (s m : List ℤ) (t : List ℕ) (r : Examined) (w : WorkedOut W H t r m) where
-  pub table_fallen : r ≡ Falls → stands W H s t ≡ false
+module _ (W H : ℕ) (s m : List ℤ) (t : List ℕ) (r : Result ℕ Refusal) (w : WorkedOut W H t r m) where
+  pub table_fallen : (f : Refusal) → r ≡ Err f → Tells (stands W H s t) t (Err f)
   unfolding stands table_stands
-  table_fallen e = let q = fallen (table_stands W H t) t r w.answer e in rw q
+  table_fallen f e =
+      let q = fallen (table_stands W H t) t r f w.answer e in
+      falls_so (table_stands W H t) (stands W H s t) t f (subst (Tells (table_stands W H t) t) e w.answer) (rw q)
 
   -- all that is left to ask is whether the lent weights are those worked out
   pub record Worked (u : ℕ) : Type 0 where
@@ -73,7 +87,7 @@ module _ (W H : ℕ) (s m : List ℤ) (t : List ℕ) (r : Examined) (w : WorkedO
     pub used : u ≡ used_slots t
     pub same : stands W H s t ≡ same_weights m s
 
-  pub table_stood : 1 ≤ W → length s ≡ W * H → (u : ℕ) → r ≡ Stands u → Worked u
+  pub table_stood : 1 ≤ W → length s ≡ W * H → (u : ℕ) → r ≡ Ok u → Worked u
   table_stood h l u e =
       let q = stood (table_stands W H t) t r u w.answer e in
       let f = w.weights q.0 in

@@ -3,6 +3,7 @@ use mathlib.Core.Path.{◌≡◌, refl, sym, ap, ap₂, ◌∙◌, subst}
 use mathlib.Core.Bool.{Bool, true, false, not, ◌&&◌, true≢false}
 use mathlib.Core.Logic.{◌⊎◌, inl, inr, ⊎_elim}
 use mathlib.Core.List.{List}
+use Rattle.std.specs.Prelude.{Err}
 use Prim.Native.Nat.{ℕ, zero, suc, ◌+◌, ◌-◌, ◌*◌, ◌≤◌, ◌<◌}
 use native.Mathlib.Nat.{eq-or-lt_of_le, mul-le-mul_right, mul_comm}
 use native.Mathlib.Omega.{arith}
@@ -17,6 +18,7 @@ use Rattle.rules.specs.Tests.{every, any, total, count, least}
 use Rattle.rules.specs.Surface.{covers, slots, id_of, rect_of, free_slot, used_slot, sound_slot, holds, number, cell, remaining, modules_apart}
 use Rattle.rules.specs.declared.Rect.{Rect}
 use Rattle.rules.specs.Requests.{has_id}
+use Rattle.rules.specs.declared.Refusal.TheVariants.{DoesNotStand}
 use Rattle.rules.proofs.Tests.{lt_or_le, and_left, and_right, and_both, four_and, or_left, or_right, fails, not_both, decide, every_at, every_no, every_fails, any_at, any_yes, any_none, any_same, least_is}
 use Rattle.meaning.proofs.Weights.{covers_within, Within, number_some, holds_covers}
 use Rattle.meaning.proofs.Tables.{look_found, least_any}
@@ -263,8 +265,8 @@ take_none W H t ids m e = record {
 }
 
 -- where the surface does not stand, a slot is refused
-pub slot_falls : {W H : ℕ} {t : List ℕ} {i : ℕ} {ids : List ℕ} {n : ℕ} {m : List ℤ} → table_stands W H t ≡ false → SlotTaken W H t i ids n m 0
-slot_falls e = record { more = λ ne. absurd (ne refl); under = λ ne. absurd (ne refl); falls = λ _. e }
+pub slot_falls : {W H : ℕ} {t : List ℕ} {i : ℕ} {ids : List ℕ} {n : ℕ} {m : List ℤ} → table_stands W H t ≡ false → SlotTaken W H t i ids n m (Err DoesNotStand)
+slot_falls e = record { more = tt; under = tt; falls = (refl, e) }
 
 -- taken as far as slot `at`
 pub record Reached (W H : ℕ) (t ids : List ℕ) (n : ℕ) (m : List ℤ) : Type 0 where

@@ -2,16 +2,17 @@
 use mathlib.Core.Path.{◌≡◌, refl, sym, ap, ap₂, ◌∙◌, subst}
 use mathlib.Core.Bool.{true, false}
 use mathlib.Core.Logic.{⊎_elim}
-use mathlib.Core.List.{List}
+use mathlib.Core.List.{List, [], ◌++◌}
 use Prim.Native.Nat.{ℕ, zero, suc, ◌+◌, ◌-◌, ◌*◌, ◌≤◌, ◌<◌}
-use native.Mathlib.Nat.{suc-mul, eq-or-lt_of_le, mul-le-mul_right, mul_comm}
+use native.Mathlib.Nat.{add-mul, eq-or-lt_of_le, mul_comm}
 use native.Mathlib.Omega.{arith}
 use borrow.Author.Count.{below_more}
 use borrow.Author.Tests.{ltb-true}
 use lib.Dec.{ltb}
 use lib.IntN.{ℤ, pos, ◌+ℤ◌, pos-+ℤ-pos}
-use lib.ListN.{length, get_or, set, length-set}
-use lib.Seq.{get_or-set_same, get_or-set_other}
+use lib.ListN.{length, get_or, set, take, drop, length-set, length-append, length-take, length-drop, get_or-append}
+use lib.Seq.{get_or-set_same, get_or-set_other, get_or-append_right, get_or-take, get_or-drop, length-take-le}
+use Rattle.std.proofs.lemmas.List.{take-append-drop}
 use mir.Syntax.{w16}
 use mir.Val.{SFits}
 use Rattle.rules.specs.Surface.{slots, cell, occupied, holder, upwards, weight, fresh}
@@ -61,13 +62,6 @@ counted_open : (m a : ℤ) → taken_z m ≡ false → counted_on m a ≡ pos (s
 unfolding counted_on
 counted_open m a e = rw e
 
-counted_twice : (m a : ℤ) → counted_on (counted_on m a) a ≡ counted_on m a
-counted_twice m a =
-    ⊎_elim
-    (λ (e : taken_z m ≡ true). counted_marked (counted_on m a) a (ap taken_z (counted_marked m a e) ∙ e))
-    (λ (e : taken_z m ≡ false). counted_open (counted_on m a) a (ap taken_z (counted_open m a e)) ∙ sym (counted_open m a e))
-    (decide (taken_z m))
-
 -- at most one more than above
 counted_le : (m a : ℤ) → count_of (counted_on m a) ≤ suc (count_of a)
 counted_le m a =
@@ -84,68 +78,79 @@ at_most W m x (suc y) = let b = at_most W m x y in let l = counted_le (cell W m 
 
 -- ---- row after row
 
--- the cell above cell (x, y)
-up_cell : (W x y : ℕ) → suc y * W - W + x ≡ y * W + x
-up_cell W x y = omega (arith, suc-mul y W)
+-- a part that was written, between what stands before it and behind it
+part_written : (front part row rest : List ℤ) (a k : ℕ) (f g : ℕ → ℤ) → length front ≡ a → length part ≡ k → RowWritten part row 0 (length part) f → ((x : ℕ) → x < k → f x ≡ g x) → RowWritten (front ++ (part ++ rest)) (front ++ (row ++ rest)) a k g
+part_written front part row rest a k f g la lk r e =
+    let d = pos 0 in
+    record {
+      long = omega (arith, length-append front (row ++ rest), length-append front (part ++ rest), length-append row rest, length-append part rest, r.long);
+      inside = λ x h.
+          get_or-append_right front _ (a + x) d (omega arith) ∙ ap (λ n. get_or (row ++ rest) n d) (let q : a + x - length front ≡ 0 + x = omega arith in q)
+          ∙ get_or-append row rest d (0 + x) (omega (arith, r.long)) ∙ r.inside x (omega arith) ∙ e x h;
+      before = λ x h. get_or-append front _ d x (omega arith) ∙ sym (get_or-append front _ d x (omega arith));
+      after = λ x h.
+          get_or-append_right front _ x d (omega arith) ∙ get_or-append_right row rest _ d (omega (arith, r.long))
+          ∙ ap (λ n. get_or rest (x - length front - n) d) r.long
+          ∙ sym (get_or-append_right front _ x d (omega arith) ∙ get_or-append_right part rest _ d (omega arith));
+    }
 
--- the first row s₁ of the marks s₀ is counted
-module _ (W : ℕ) (s₀ s₁ : List ℤ) (r : RowWritten s₀ s₁ 0 W (λ x. counted_on (get_or s₀ x (pos 0)) (pos 0))) where
-  first_cell : (x : ℕ) → x < W → cell W s₁ x 0 ≡ counted_on (cell W s₀ x 0) (pos 0)
-  first_cell x a =
-      let q : 0 * W + x ≡ 0 + x = omega arith in
-      let p : 0 * W + x ≡ x = omega arith in
-      ap (λ k. get_or s₁ k (pos 0)) q ∙ r.inside x a ∙ ap (λ k. counted_on (get_or s₀ k (pos 0)) (pos 0)) (sym p)
+counted_step : (W : ℕ) (s : List ℤ) (x y : ℕ) → 1 ≤ y → counted_on (cell W s x y) (counted_at W s x (y - 1)) ≡ counted_at W s x y
+unfolding counted_at
+counted_step W s x zero h = absurd (omega arith)
+counted_step W s x (suc y) h = ap (λ n. counted_on (cell W s x (suc y)) (counted_at W s x n)) (let q : suc y - 1 ≡ y = omega arith in q)
 
-  -- counted once more it stays
-  again : (x : ℕ) → x < W → counted_on (cell W s₁ x 0) (pos 0) ≡ cell W s₁ x 0
-  again x a = ap (λ z. counted_on z (pos 0)) (first_cell x a) ∙ counted_twice (cell W s₀ x 0) (pos 0) ∙ sym (first_cell x a)
+-- row y written with its counts: one row more is counted
+row_counted : (W : ℕ) (s₀ s u : List ℤ) (y : ℕ) → CountedTo W s₀ s y → RowWritten s u (y * W) W (λ x. counted_at W s₀ x y) → CountedTo W s₀ u (y + 1)
+row_counted W s₀ s u y d r = record {
+  long = r.long ∙ d.long;
+  counted = λ x z a b.
+      ⊎_elim
+      (λ (e : z ≡ y). subst (λ z. cell W u x z ≡ counted_at W s₀ x z) (sym e) (r.inside x a))
+      (λ (l : z < y). r.before (z * W + x) (omega (arith, row_before W z y (x + 1) l (omega arith))) ∙ d.counted x z a l)
+      (eq-or-lt_of_le (let q : z ≤ y = omega arith in q));
+  ahead = λ x z a b. r.after (z * W + x) (omega (arith, row_before W y z W (omega arith) (omega arith))) ∙ d.ahead x z a (omega arith);
+}
 
-  later : (x y : ℕ) → x < W → 1 ≤ y → cell W s₁ x y ≡ cell W s₀ x y
-  later x y a h = let m : 1 * W ≤ y * W = mul-le-mul_right W h in r.after (y * W + x) (omega arith)
-
-  pub counted_first : CountedTo W s₁ s₁ 1
+module _ (W : ℕ) (s₀ : List ℤ) where
+  pub counted_first : (row : List ℤ) → W ≤ length s₀ → RowWritten (take W s₀) row 0 (length (take W s₀)) (λ x. counted_on (get_or (take W s₀) x (pos 0)) (pos 0)) → CountedTo W s₀ (row ++ drop W s₀) 1
   unfolding counted_at
-  counted_first = record {
-    long = refl;
-    counted = λ x y a b. let z : y ≡ 0 = omega arith in subst (λ y. cell W s₁ x y ≡ counted_at W s₁ x y) (sym z) (sym (again x a));
-    ahead = λ x y a b. refl;
-  }
+  counted_first row l r =
+      row_counted W s₀ s₀ (row ++ drop W s₀) 0 (record { long = refl; counted = λ x y a b. absurd (omega arith); ahead = λ x y a b. refl })
+      (subst (λ u. RowWritten u (row ++ drop W s₀) (0 * W) W (λ x. counted_at W s₀ x 0)) (take-append-drop W s₀)
+      (part_written [] (take W s₀) row (drop W s₀) (0 * W) W _ _ (omega arith) (length-take-le W s₀ l) r
+      (λ x h. ap (λ z. counted_on z (pos 0)) (get_or-take W s₀ x (pos 0) h ∙ ap (λ k. get_or s₀ k (pos 0)) (let q : x ≡ 0 * W + x = omega arith in q)))))
 
-  -- so the rows come to the same from s₁ as from s₀
-  since : (x y : ℕ) → x < W → counted_at W s₁ x y ≡ counted_at W s₀ x y
-  unfolding counted_at
-  since x zero a = again x a ∙ first_cell x a
-  since x (suc y) a = ap₂ counted_on (later x (suc y) a (omega arith)) (since x y a)
+  -- the rows above row y are counted, and what stands there ends with the row above it
+  module _ (s : List ℤ) (y : ℕ) (h : 1 ≤ y) (d : CountedTo W s₀ s y) (ends : (y + 1) * W ≤ length s) (front back : List ℤ) (p : front ≡ take (y * W) s) (q : back ≡ drop (y * W) s) where
+    abbrev above : List ℤ
+    above = take (length front - (y - 1) * W) (drop ((y - 1) * W) front)
 
-  pub counted_since : (s : List ℤ) (n : ℕ) → 1 ≤ n → CountedTo W s₁ s n → CountedTo W s₀ s n
-  counted_since s n h d = record {
-    long = d.long ∙ r.long;
-    counted = λ x y a b. d.counted x y a b ∙ since x y a;
-    ahead = λ x y a b. d.ahead x y a b ∙ later x y a (omega arith);
-  }
+    front_long : length front ≡ y * W
+    front_long = ap length p ∙ length-take-le (y * W) s (omega (arith, add-mul y 1 W))
 
-module _ (W : ℕ) (s₀ s : List ℤ) where
-  -- the row above holds counts that are small
-  pub above_few : (y : ℕ) → 1 ≤ y → CountedTo W s₀ s y → (x : ℕ) → x < W → count_of (get_or s (y * W - W + x) (pos 0)) ≤ y
-  above_few zero h d x a = absurd (omega arith)
-  above_few (suc y) h d x a = subst (λ z. count_of z ≤ suc y) (sym (ap (λ k. get_or s k (pos 0)) (up_cell W x y) ∙ d.counted x y a (omega arith))) (at_most W s₀ x y)
+    one_less : (y - 1) * W + W ≡ y * W
+    one_less = omega (arith, add-mul (y - 1) 1 W, ap (λ n. n * W) (let e : y - 1 + 1 ≡ y = omega arith in e))
 
-  -- the row counted on from the row above
-  next_cell : (y : ℕ) → 1 ≤ y → CountedTo W s₀ s y → (x : ℕ) → x < W → counted_on (get_or s (y * W + x) (pos 0)) (get_or s (y * W - W + x) (pos 0)) ≡ counted_at W s₀ x y
-  unfolding counted_at
-  next_cell zero h d x a = absurd (omega arith)
-  next_cell (suc y) h d x a = ap₂ counted_on (d.ahead x (suc y) a (omega arith)) (ap (λ k. get_or s k (pos 0)) (up_cell W x y) ∙ d.counted x y a (omega arith))
+    above_is : (x : ℕ) → x < W → get_or above x (pos 0) ≡ counted_at W s₀ x (y - 1)
+    above_is x a =
+        get_or-take _ _ x (pos 0) (omega (arith, front_long, one_less)) ∙ get_or-drop ((y - 1) * W) front x (pos 0) ∙ ap (λ l. get_or l ((y - 1) * W + x) (pos 0)) p
+        ∙ get_or-take (y * W) s _ (pos 0) (omega (arith, one_less)) ∙ d.counted x (y - 1) a (omega arith)
 
-  pub counted_next : (y : ℕ) → 1 ≤ y → (u : List ℤ) → CountedTo W s₀ s y → RowWritten s u (y * W) W (λ x. counted_on (get_or s (y * W + x) (pos 0)) (get_or s (y * W - W + x) (pos 0))) → CountedTo W s₀ u (y + 1)
-  counted_next y h u d r = record {
-    long = r.long ∙ d.long;
-    counted = λ x z a b.
-        ⊎_elim
-        (λ (e : z ≡ y). subst (λ z. cell W u x z ≡ counted_at W s₀ x z) (sym e) (r.inside x a ∙ next_cell y h d x a))
-        (λ (l : z < y). r.before (z * W + x) (omega (arith, row_before W z y (x + 1) l (omega arith))) ∙ d.counted x z a l)
-        (eq-or-lt_of_le (let q : z ≤ y = omega arith in q));
-    ahead = λ x z a b. r.after (z * W + x) (omega (arith, row_before W y z W (omega arith) (omega arith))) ∙ d.ahead x z a (omega arith);
-  }
+    pub above_long : length above ≡ length (take W back)
+    above_long = omega (arith, length-take (length front - (y - 1) * W) (drop ((y - 1) * W) front), length-drop ((y - 1) * W) front, length-take W back, length-drop (y * W) s, ap length q, front_long, one_less, add-mul y 1 W)
+
+    pub above_few : (x : ℕ) → x < length (take W back) → count_of (get_or above x (pos 0)) ≤ y
+    above_few x a = rw (above_is x (omega (arith, length-take W back))) (omega (arith, at_most W s₀ x (y - 1)))
+
+    pub counted_next : (row : List ℤ) → RowWritten (take W back) row 0 (length (take W back)) (λ x. counted_on (get_or (take W back) x (pos 0)) (get_or above x (pos 0))) → CountedTo W s₀ (front ++ (row ++ drop W back)) (y + 1)
+    counted_next row r =
+        row_counted W s₀ s _ y d
+        (subst (λ u. RowWritten u (front ++ (row ++ drop W back)) (y * W) W (λ x. counted_at W s₀ x y)) whole
+        (part_written front (take W back) row (drop W back) (y * W) W _ _ front_long (length-take-le W back (omega (arith, ap length q, length-drop (y * W) s, add-mul y 1 W))) r
+        (λ x a. ap₂ counted_on (get_or-take W back x (pos 0) a ∙ ap (λ l. get_or l x (pos 0)) q ∙ get_or-drop (y * W) s x (pos 0) ∙ d.ahead x y a (omega arith)) (above_is x a) ∙ counted_step W s₀ x y h)))
+      where
+        whole : front ++ (take W back ++ drop W back) ≡ s
+        whole = ap₂ ◌++◌ p (take-append-drop W back ∙ q) ∙ take-append-drop (y * W) s
 
 -- ---- the rows of a surface whose modules are marked
 

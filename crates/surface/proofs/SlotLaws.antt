@@ -1,48 +1,35 @@
 -- What the tests of slots and ids tell. Assumes nothing.
 use mathlib.Core.Path.{◌≡◌, refl, sym, ap, ◌∙◌, subst}
-use mathlib.Core.Bool.{Bool, true, false, not, ◌&&◌, ◌||◌, or-false, true≢false}
+use mathlib.Core.Bool.{Bool, true, false, ◌&&◌, ◌||◌, or-false, true≢false}
 use mathlib.Core.Logic.{⊎_elim}
 use mathlib.Core.List.{List}
 use Prim.Native.Nat.{ℕ, zero, suc, ◌+◌, ◌*◌, ◌≤◌, ◌<◌}
 use native.Mathlib.Nat.{eq-or-lt_of_le}
 use native.Mathlib.Numerals.{add-one}
 use native.Mathlib.Omega.{arith}
-use lib.Dec.{leb, ltb, eqb}
-use lib.ListN.{length, get_or, set}
-use lib.Seq.{get_or-set_same, get_or-set_other}
+use lib.Dec.{leb, eqb}
+use lib.ListN.{length, get_or, set, take}
+use lib.Seq.{get_or-set_same, get_or-set_other, get_or-take, length-take-le}
+use Rattle.std.proofs.lemmas.Bool.Decides.{nat_tests}
 use borrow.Author.Count.{below_more}
-use borrow.Author.Tests.{leb-true, leb-false, le-leb, le-ltb, lt-ltb, eqb-true, eq-eqb, not-true}
+use borrow.Author.Tests.{eq-eqb, not-true}
 use Rattle.rules.specs.Tests.{any, total, count}
 use Rattle.rules.specs.Surface.{slots, byte, id_of, kind_of, kind_known, spare_zero, free_slot, used_slot, sound_slot, slots_sound, ids_differ, modules_apart}
 use Rattle.rules.specs.declared.Rect.{Rect}
 use Rattle.rules.specs.Requests.{has_id}
-use Rattle.rules.proofs.Tests.{and_left, and_right, and_both, fails, not_both, decide, every_yes, any_at, any_yes}
-use Rattle.meaning.proofs.Stands.{Sound, sound_told, slots_told, same_id, same_told, ids_told, told_ids}
+use Rattle.rules.proofs.Tests.{and_left, and_right, and_both, fails, not_both, every_yes, any_at, any_yes, any_same}
+use Rattle.meaning.proofs.Stands.{slots_told, same_id, same_told, ids_told, told_ids}
 use Rattle.surface.specs.Slots.{Gathered, table_stands}
 
 -- ---- a sound slot
 
--- the kind and the spare byte, as one number
-pub kind_spare : (t : List ℕ) (i : ℕ) → kind_known t i ≡ true → spare_zero t i ≡ true → kind_of t i + 256 * byte t i 7 ≤ 1
-kind_spare t i k e = omega (arith, leb-true (kind_of t i) 1 k, eqb-true (byte t i 7) 0 e)
-
-pub spare_kind : (t : List ℕ) (i : ℕ) → kind_of t i + 256 * byte t i 7 ≤ 1 → (kind_known t i ≡ true) × (spare_zero t i ≡ true)
-spare_kind t i l = (le-leb (kind_of t i) 1 (omega arith), eq-eqb (byte t i 7) 0 (omega arith))
+-- the kind and the spare byte as one number: at most 1 exactly when both are right
+pub kind_and_spare : (t : List ℕ) (i n : ℕ) → n ≡ kind_of t i + 256 * byte t i 7 → leb n 1 ≡ (kind_known t i && spare_zero t i)
+kind_and_spare t i n e = grind (arith, nat_tests)
 
 -- a rectangle that was read, side by side with its bytes
 pub read_rect : {r q : Rect} → r ≡ q → (r.x ≡ q.x) × (r.y ≡ q.y) × (r.w ≡ q.w) × (r.h ≡ q.h)
 read_rect e = (ap (λ (r : Rect). r.x) e, ap (λ (r : Rect). r.y) e, ap (λ (r : Rect). r.w) e, ap (λ (r : Rect). r.h) e)
-
-pub unsound : (W H : ℕ) (t : List ℕ) (i : ℕ) → (Sound W H t i → ⊥) → sound_slot W H t i ≡ false
-unsound W H t i n = fails (sound_slot W H t i) (λ q. n (sound_told W H t i q))
-
--- above a number, or not at most it
-pub over : (a n : ℕ) → ltb a n ≡ not (leb n a)
-over a n =
-    ⊎_elim
-    (λ (p : leb n a ≡ true). le-ltb a n (leb-true n a p) ∙ sym (ap not p))
-    (λ (p : leb n a ≡ false). lt-ltb a n (leb-false n a p) ∙ sym (ap not p))
-    (decide (leb n a))
 
 -- ---- one number more
 
@@ -69,6 +56,12 @@ count_mono i (suc j) p h =
     (λ (e : i ≡ suc j). rw e (omega arith))
     (λ (l : i < suc j). let c = count_mono i j p (omega arith) in omega arith)
     (eq-or-lt_of_le h)
+
+-- ---- the first n ids
+
+module _ (ids : List ℕ) (n : ℕ) (h : n ≤ length ids) where
+  pub any_part : (id : ℕ) → any (length (take n ids)) (λ k. eqb (get_or (take n ids) k 0) id) ≡ any n (λ k. eqb (get_or ids k 0) id)
+  any_part id = ap (λ m. any m (λ k. eqb (get_or (take n ids) k 0) id)) (length-take-le n ids h) ∙ any_same n _ _ (λ k a. ap (λ v. eqb v id) (get_or-take n ids k 0 a))
 
 -- ---- the used slots side by side
 
@@ -98,6 +91,15 @@ gather_hit t u i n g e l u' n' p q = subst (λ k. Gathered t u' (i + 1) k) (sym 
         below_more (λ k. P (get_or (set u n i) k 0) k) n
         (λ k h. subst (λ j. P j k) (sym (get_or-set_other u n k i 0 (λ q. omega arith))) (f k h))
         (subst (λ j. P j n) (sym (get_or-set_same u n i 0 l)) p)
+
+-- the buffer as far as it was filled
+pub gathered_part : (t u : List ℕ) (i n : ℕ) → Gathered t u i n → n ≤ length u → Gathered t (take n u) i (length (take n u))
+gathered_part t u i n g h = subst (λ k. Gathered t (take n u) i k) (sym (length-take-le n u h)) (record {
+  many = g.many;
+  low = λ k l. omega (arith, get_or-take n u k 0 l, g.low k l);
+  used = λ k l. rw (get_or-take n u k 0 l) (g.used k l);
+  before = λ k l. rw (get_or-take n u k 0 l) (g.before k l);
+})
 
 -- ---- what makes a table fall
 

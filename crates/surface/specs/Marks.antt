@@ -1,8 +1,11 @@
 -- Marks: a scratch as large as the surface, on which each module's own cells get the number that the module gives them, and all others are 1.
-use Rattle.std.specs.Prelude.{◌≡◌, Bool, true, false, cond, ◌&&◌, ◌||◌, ◌⊎◌, List, ℕ, ◌+◌, ◌*◌, ◌≤◌, ◌<◌, eqb, ℤ, pos, neg_ℤ, length, get_or}
+use Rattle.std.specs.Prelude.{Result, IfOk, OnOk, IfErr, ◌≡◌, true, false, cond, ◌&&◌, ◌||◌, ◌⊎◌, List, ℕ, ◌+◌, ◌*◌, ◌≤◌, ◌<◌, eqb, ℤ, pos, neg_ℤ, length, get_or}
 use Rattle.rules.specs.Tests.{any, count, least}
 use Rattle.rules.specs.Surface.{slots, id_of, free_slot, used_slot, sound_slot, cell, holds, remaining}
 use Rattle.rules.specs.Requests.{has_id}
+use Rattle.rules.specs.Refusals.{result_code}
+use Rattle.rules.specs.declared.Refusal.{Refusal}
+use Rattle.rules.specs.declared.Refusal.TheVariants.{DoesNotStand}
 use Rattle.surface.specs.Slots.{table_stands, Under}
 
 -- the j rows from y of the columns x .. x + n - 1 are marked, column c with the number g c, and nothing else has changed
@@ -42,12 +45,13 @@ pub record Takeable (W H : ℕ) (t : List ℕ) (i : ℕ) (ids : List ℕ) (n top
   pub under : Under ids n top
   pub taken : TakenTo W H t i ids n m
 
--- and what is left: it is taken too, and r is not 0 and what no id is over; or r is 0, and the surface does not stand
-pub record SlotTaken (W H : ℕ) (t : List ℕ) (i : ℕ) (ids : List ℕ) (n : ℕ) (m : List ℤ) (r : ℕ) : Type 0 where
-  pub more : (r ≡ 0 → ⊥) → TakenTo W H t (i + 1) ids (n + 1) m
-  pub under : (r ≡ 0 → ⊥) → Under ids (n + 1) r
-  pub falls : r ≡ 0 → table_stands W H t ≡ false
+-- and what is left: it is taken too, and r is what no id is over; or it is refused, and the surface does not stand
+pub record SlotTaken (W H : ℕ) (t : List ℕ) (i : ℕ) (ids : List ℕ) (n : ℕ) (m : List ℤ) (r : Result ℕ Refusal) : Type 0 where
+  pub more : OnOk r (TakenTo W H t (i + 1) ids (n + 1) m)
+  pub under : IfOk r (λ top. Under ids (n + 1) top)
+  pub falls : IfErr r (λ e. (e ≡ DoesNotStand) × (table_stands W H t ≡ false))
 
-pub record AllTaken (W H : ℕ) (t : List ℕ) (m : List ℤ) (ok : Bool) : Type 0 where
-  pub is : ok ≡ table_stands W H t
-  pub marked : ok ≡ true → MarkedTo W H t (slots t) m
+-- all slots are taken: code 0, and all modules are marked; or code 6, "the surface does not stand"
+pub record AllTaken (W H : ℕ) (t : List ℕ) (m : List ℤ) (r : Result (Unit {0}) Refusal) : Type 0 where
+  pub code : result_code r ≡ cond (table_stands W H t) 0 6
+  pub marked : OnOk r (MarkedTo W H t (slots t) m)

@@ -1,17 +1,13 @@
 // The cleared surface: "Clear frees all slots and gives cell (x, y) weight y + 1."
-ghost use Rattle.std.specs.Prelude.{◌≡◌, ◌+◌, ◌*◌, ◌≤◌, length, replicate, pos};
+ghost use Rattle.std.specs.Prelude.{◌≡◌, ◌*◌, ◌≤◌, length, replicate};
 ghost use Rattle.rules.specs.Calls.{cleared_weights};
-ghost use Rattle.surface.specs.Rows.{RowWritten};
 
-// A run of n cells from at is given the count v.
-fn fill_row(s: &mut [i16], at: usize, n: usize, v: usize)
-    requires { (at + n ≤ length s.old) × (v ≤ 32767) }
-    ensures { RowWritten s.old s.new at n (λ _. pos v) }
+// Every cell of a row. (By the slice's `fill` a clear at 64×64 costs 18 % more instructions.)
+fn fill_row(row: &mut [i16], weight: i16)
+    ensures { row.new ≡ replicate (length row.old) weight }
 {
-    let mut i = 0;
-    while i < n {
-        cells::put_count(s, at + i, v);
-        i += 1;
+    for cell in row.iter_mut() {
+        *cell = weight;
     }
 }
 
@@ -20,12 +16,8 @@ pub fn clear_weights(w: usize, h: usize, s: &mut [i16])
     requires { (w ≤ 64) × (h ≤ 64) × (length s.old ≡ w * h) }
     ensures { s.new ≡ cleared_weights w h }
 {
-    let mut y = 0;
-    let mut at = 0;
-    while y < h {
-        fill_row(s, at, w, y + 1);
-        at += w;
-        y += 1;
+    for y in 0..h {
+        fill_row(&mut s[y * w..(y + 1) * w], cells::counted(y + 1));
     }
 }
 
@@ -33,9 +25,5 @@ pub fn clear_weights(w: usize, h: usize, s: &mut [i16])
 pub fn free_slots(t: &mut [u8])
     ensures { t.new ≡ replicate (length t.old) 0 }
 {
-    let mut i = 0;
-    while i < t.len() {
-        t[i] = 0;
-        i += 1;
-    }
+    t.fill(0);
 }

@@ -6,35 +6,33 @@ ghost use Rattle.cells.specs.Weight.{untaken};
 ghost use Rattle.surface.specs.Slots.{Gathered};
 ghost use Rattle.surface.specs.Marks.{Marked, TakenTo, Takeable, SlotTaken, AllTaken};
 
-use super::slots::{known, larger, sound};
+use super::slots::{known, sound};
+use rules::{Rect, Refusal};
 
-// The cells of the mw by mh rectangle at (x, y), each looked at before it is marked with the number of a module there, in whichever slot. Both walks
-// end at the first that is taken already.
-fn mark(m: &mut [i16], w: usize, x: usize, y: usize, mw: usize, mh: usize) -> bool
-    requires { (x + mw ≤ w) × ((y + mh) * w ≤ length m.old) × (1 ≤ w) × (w ≤ 64) }
-    ensures value { result ≡ untaken w m.old x y mw mh }
-    ensures marked { result ≡ true → (i : ℕ) → Marked w m.old m.new x y mw mh (number i (rect x y mw mh)) }
+// The cells of the rectangle, each looked at before it is marked with the number of a module there, in whichever slot. Both walks end at the first
+// that is taken already.
+fn mark(m: &mut [i16], w: usize, r: Rect) -> bool
+    requires { (r.x + r.w ≤ w) × ((r.y + r.h) * w ≤ length m.old) × (1 ≤ w) × (w ≤ 64) }
+    ensures value { result ≡ untaken w m.old r.x r.y r.w r.h }
+    ensures marked { result ≡ true → (i : ℕ) → Marked w m.old m.new r.x r.y r.w r.h (number i r) }
 {
+    // A label and a flag, not `return` or `all`: the rules name the form, "leave both loops by a label at the first occupied cell".
     let mut free = true;
-    let mut j = 0;
-    'rows: while j < mh {
-        let mut i = 0;
-        while i < mw {
-            let at = (y + j) * w + (x + i);
-            if cells::taken_at(m, at) {
+    'rows: for j in 0..r.h {
+        for i in 0..r.w {
+            let at = (r.y + j) * w + (r.x + i);
+            if cells::is_taken(m[at]) {
                 free = false;
                 break 'rows;
             }
-            cells::put_occupied(m, at, mw - i);
-            i += 1;
+            m[at] = cells::occupied_by(r.w - i);
         }
-        j += 1;
     }
     free
 }
 
 // The used slot i, with n ids noted before it, none of them over top: it has to be sound, its id new and its cells not taken. The result is what no id
-// is over now, 0 where the surface does not stand.
+// is over now.
 fn take_slot(
     t: &[u8],
     i: usize,
@@ -44,47 +42,34 @@ fn take_slot(
     n: usize,
     top: usize,
     m: &mut [i16],
-) -> usize
+) -> Result<usize, Refusal>
     requires { Takeable w h t.now i ids.old n top m.old }
     ensures { SlotTaken w h t.now i ids.new n m.new result }
 {
     let id = table::id_at(t, i);
     let r = table::rect_at(t, i);
-    if !sound(t, i, id, r, w, h) {
-        return 0;
-    }
-    if known(ids, n, id as u16, top) {
-        return 0;
-    }
-    if !mark(m, w, r.x, r.y, r.w, r.h) {
-        return 0;
+    if !sound(t, i, id, r, w, h) || known(&ids[..n], id as u16, top) || !mark(m, w, r) {
+        return Err(Refusal::DoesNotStand);
     }
     ids[n] = id as u16;
-    larger(top, id)
+    Ok(top.max(id))
 }
 
-// The n used slots in turn: whether the table's part of "a surface stands" holds. If so, all modules are marked.
+// The used slots in turn: refused where the table's part of "a surface stands" fails. Otherwise all modules are marked.
 pub fn take_all(
     t: &[u8],
     w: usize,
     h: usize,
     used: &[u8],
-    n: usize,
     ids: &mut [u16],
     m: &mut [i16],
-) -> bool
-    requires { (1 ≤ w) × (w ≤ 64) × Gathered t.now used.now (slots t.now) n × (n ≤ length used.now) × (n ≤ length ids.old) × TakenTo w h t.now 0 ids.old 0 m.old }
+) -> Result<(), Refusal>
+    requires { (1 ≤ w) × (w ≤ 64) × Gathered t.now used.now (slots t.now) (length used.now) × (length used.now ≤ length ids.old) × TakenTo w h t.now 0 ids.old 0 m.old }
     ensures { AllTaken w h t.now m.new result }
 {
     let mut top = 0;
-    let mut k = 0;
-    while k < n {
-        let over = take_slot(t, used[k] as usize, w, h, ids, k, top, m);
-        if over == 0 {
-            return false;
-        }
-        top = over;
-        k += 1;
+    for (k, slot) in used.iter().enumerate() {
+        top = take_slot(t, usize::from(*slot), w, h, ids, k, top, m)?;
     }
-    true
+    Ok(())
 }

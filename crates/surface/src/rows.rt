@@ -20,27 +20,22 @@ fn counted_on(m: i16, a: i16) -> i16
     pick(m, c)
 }
 
-fn first_row(m: &mut [i16], w: usize)
-    requires { w ≤ length m.old }
-    ensures { RowWritten m.old m.new 0 w (λ x. counted_on (get_or m.old x (pos 0)) (pos 0)) }
+// The top row has none above it: one function for it and for the rows below would be lent a row of zeros there, an array more.
+fn first_row(row: &mut [i16])
+    ensures { RowWritten row.old row.new 0 (length row.old) (λ x. counted_on (get_or row.old x (pos 0)) (pos 0)) }
 {
-    let mut x = 0;
-    while x < w {
-        m[x] = counted_on(m[x], 0);
-        x += 1;
+    for m in row.iter_mut() {
+        *m = counted_on(*m, 0);
     }
 }
 
-// The row that begins at `at`, from the row above it.
-fn next_row(m: &mut [i16], w: usize, at: usize)
-    requires { (w ≤ at) × (at + w ≤ length m.old) × ((x : ℕ) → x < w → count_of (get_or m.old (at - w + x) (pos 0)) ≤ 64) }
-    ensures { RowWritten m.old m.new at w (λ x. counted_on (get_or m.old (at + x) (pos 0)) (get_or m.old (at - w + x) (pos 0))) }
+// The row below the one that is lent as `above`.
+fn next_row(above: &[i16], row: &mut [i16])
+    requires { (length above.now ≡ length row.old) × ((x : ℕ) → x < length row.old → count_of (get_or above.now x (pos 0)) ≤ 64) }
+    ensures { RowWritten row.old row.new 0 (length row.old) (λ x. counted_on (get_or row.old x (pos 0)) (get_or above.now x (pos 0))) }
 {
-    let mut x = 0;
-    let up = at - w;
-    while x < w {
-        m[at + x] = counted_on(m[at + x], m[up + x]);
-        x += 1;
+    for (x, m) in row.iter_mut().enumerate() {
+        *m = counted_on(*m, above[x]);
     }
 }
 
@@ -49,12 +44,9 @@ pub fn count_rows(m: &mut [i16], w: usize, h: usize)
     requires { (1 ≤ h) × (h ≤ 64) × (w ≤ 64) × (length m.old ≡ w * h) }
     ensures { CountedTo w m.old m.new h }
 {
-    first_row(m, w);
-    let mut at = w;
-    let mut y = 1;
-    while y < h {
-        next_row(m, w, at);
-        at += w;
-        y += 1;
+    first_row(&mut m[..w]);
+    for y in 1..h {
+        let (above, rest) = m.split_at_mut(y * w);
+        next_row(&above[(y - 1) * w..], &mut rest[..w]);
     }
 }

@@ -1,77 +1,67 @@
 // Codes 1 to 5, before anything is read.
-ghost use Rattle.std.specs.Prelude.{◌≡◌, not, ◌++◌, ◌*◌, ◌≤◌, eqb};
-ghost use Rattle.rules.specs.Calls.{bad_size, bad_table, bad_block, size_lines};
+ghost use Rattle.std.specs.Prelude.{◌≡◌, not, ◌||◌, ◌++◌, ◌*◌, ◌/◌, ◌%◌, ◌≤◌, eqb, OnOk};
+ghost use Rattle.rules.specs.Tests.{between};
+ghost use Rattle.rules.specs.Calls.{bad_size, size_lines};
 ghost use Rattle.rules.specs.Judging.{first};
+ghost use Rattle.rules.specs.Refusals.{result_code};
 ghost use Rattle.surface.specs.Sizes.{block_lines};
 
+use rules::Refusal;
+
+#[tactic(auto, unfolding(rules::specs::Calls::bad_size))]
 fn bad_size(w: usize, h: usize) -> bool
     ensures { result ≡ bad_size w h }
 {
-    if w < 1 {
-        return true;
-    }
-    if 64 < w {
-        return true;
-    }
-    if h < 1 {
-        return true;
-    }
-    64 < h
+    !(1..=64).contains(&w) || !(1..=64).contains(&h)
 }
 
-fn bad_table(n: usize) -> bool
-    ensures { result ≡ bad_table n }
+// "not a multiple of 8 bytes, or not 1..256 slots" of the table, "or over 512 requests" of the block: eight bytes each, at least and at most so many.
+fn no_count(bytes: usize, least: usize, most: usize) -> bool
+    ensures { result ≡ (not (eqb (bytes % 8) 0) || not (between least most (bytes / 8))) }
 {
-    if n % 8 != 0 {
-        return true;
-    }
-    if n / 8 < 1 {
-        return true;
-    }
-    256 < n / 8
+    bytes % 8 != 0 || !(least..=most).contains(&(bytes / 8))
 }
 
-// The lowest of 1, 2 and 3 that applies, 0 where none does: n is the length of the weights, of which a cell has `each`; nt that of the table.
-pub fn size_code(w: usize, h: usize, n: usize, each: usize, nt: usize) -> u64
+// The lowest of 1, 2 and 3 that applies: n is the length of the weights, of which a cell has `each`; nt that of the table.
+#[tactic(auto, unfolding(rules::specs::Judging::first, rules::specs::Calls::bad_table))]
+pub fn check_sizes(w: usize, h: usize, n: usize, each: usize, nt: usize) -> Result<(), Refusal>
     requires { each ≤ 2 }
-    ensures { result ≡ first (size_lines (not (eqb n (each * (w * h)))) w h nt) }
+    ensures code { result_code result ≡ first (size_lines (not (eqb n (each * (w * h)))) w h nt) }
+    ensures cells { OnOk result (w * h ≤ 4096) }
 {
     if bad_size(w, h) {
-        return 1;
+        return Err(Refusal::SurfaceSize);
     }
     if n != each * (w * h) {
-        return 2;
+        return Err(Refusal::WeightsLength);
     }
-    if bad_table(nt) {
-        return 3;
+    if no_count(nt, 1, 256) {
+        return Err(Refusal::TableLength);
     }
-    0
+    Ok(())
 }
 
-fn bad_block(n: usize) -> bool
-    ensures { result ≡ bad_block n }
-{
-    if n % 8 != 0 {
-        return true;
-    }
-    512 < n / 8
-}
-
-// The lowest of 1 to 5 that applies, 0 where none does: n is the length of the weights, of which a cell has `each`; nt, nq and na those of table,
-// block and answers.
-pub fn block_code(w: usize, h: usize, n: usize, each: usize, nt: usize, nq: usize, na: usize) -> u64
+// The lowest of 1 to 5 that applies: n is the length of the weights, of which a cell has `each`; nt, nq and na those of table, block and answers.
+#[tactic(auto, unfolding(rules::specs::Judging::first, rules::specs::Calls::bad_block))]
+pub fn check_block(
+    w: usize,
+    h: usize,
+    n: usize,
+    each: usize,
+    nt: usize,
+    nq: usize,
+    na: usize,
+) -> Result<(), Refusal>
     requires { each ≤ 2 }
-    ensures { result ≡ first (size_lines (not (eqb n (each * (w * h)))) w h nt ++ block_lines nq na) }
+    ensures code { result_code result ≡ first (size_lines (not (eqb n (each * (w * h)))) w h nt ++ block_lines nq na) }
+    ensures cells { OnOk result (w * h ≤ 4096) }
 {
-    let code = size_code(w, h, n, each, nt);
-    if code != 0 {
-        return code;
-    }
-    if bad_block(nq) {
-        return 4;
+    check_sizes(w, h, n, each, nt)?;
+    if no_count(nq, 0, 512) {
+        return Err(Refusal::BlockLength);
     }
     if na != nq {
-        return 5;
+        return Err(Refusal::AnswersLength);
     }
-    0
+    Ok(())
 }

@@ -1,11 +1,7 @@
-use Prim.Native.Nat.{◌*◌, ◌≤◌, ◌-◌}
-use lib.ListN.{length}
+use Prim.Native.Nat.{◌*◌}
 use Rattle.rules.specs.Host.{bytes_of}
 use Rattle.cells.proofs.Upto.{Upto}
 use Rattle.codec.proofs.encode.Given as goal
 
 abbrev pub invariant-loop-k : goal.invariant-loop-k
-invariant-loop-k l = (l.k ≤ length l.s) × Upto 0 (bytes_of l.s) l.b (2 * l.k)
-
-abbrev pub decreases-loop-k : goal.decreases-loop-k
-decreases-loop-k l = length l.s - l.k
+invariant-loop-k l = Upto 0 (bytes_of l.s) l.b (2 * l.k)

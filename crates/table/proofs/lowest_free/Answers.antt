@@ -1,29 +1,14 @@
--- `table::lowest_free` meets its contract: no slot before the one that the walk has come to is wanted. Assumes nothing.
-use mathlib.Core.Path.{◌∙◌}
-use native.Mathlib.Omega.{arith}
+use mathlib.Core.Path.{◌≡◌, ◌∙◌}
+use mathlib.Core.Bool.{true, false}
+use Rattle.std.proofs.Common.{rules}
+use Rattle.std.proofs.lemmas.Iterator.{YieldsList-from_slice, IsFirst-from_position}
+use Rattle.rules.specs.Surface.{free_slot}
 use Rattle.rules.specs.Requests.{lowest_free}
-use Rattle.meaning.proofs.Tables.{look_none, look_more, look_found, look_end}
+use Rattle.table.proofs.Laws.{first_slot, chunk_free}
 use Rattle.table.proofs.lowest_free.Goals as goal
-
-pub loop-i-init : goal.loop-i-init
-loop-i-init c = (omega arith, look_none _ _)
-
-pub returns-then-slot_free : goal.returns-then-slot_free
-unfolding lowest_free
-returns-then-slot_free c = let l = c.before.before.before.loop-i in look_found _ _ l.i l.invariant.1 (omega arith) c.before.slot_free.ensures c.if-slot_free.true
-
-pub loop-i-preserved : goal.loop-i-preserved
-loop-i-preserved c = let l = c.before.before.before.loop-i in (omega arith, look_more _ _ l.i l.invariant.1 (omega arith) c.before.slot_free.ensures c.if-slot_free.false)
 
 pub returns : goal.returns
 unfolding lowest_free
-returns c = let l = c.before.loop-i in l.invariant.0 ∙ look_end _ _ l.i l.invariant.1 (omega arith)
-
-pub slot_free-requires : goal.slot_free-requires
-slot_free-requires c = omega arith
-
-pub overflow_add-i : goal.overflow_add-i
-overflow_add-i c = omega arith
-
-pub loop-i-smaller : goal.loop-i-smaller
-loop-i-smaller c = omega arith
+returns c =
+    first_slot c.args.t.now (λ slot. free_slot slot 0) (free_slot c.args.t.now) _ (λ i l. chunk_free c.args.t.now i l)
+    (IsFirst-from_position _ _ _ (λ slot. free_slot slot 0 ≡ true) (λ slot. free_slot slot 0 ≡ false) c.position.ensures.ran (YieldsList-from_slice _ (c.iter.ensures.rest ∙ c.as_chunks.ensures.front)) (λ x q k. search rules) (λ x q k. search rules))

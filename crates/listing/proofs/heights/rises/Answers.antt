@@ -1,13 +1,12 @@
 -- `listing::heights::rises` meets its contract. Assumes nothing.
-use mathlib.Core.Path.{ap₂, ◌∙◌}
-use mir.Syntax.{w16}
-use mir.ValLaws.{to_z-of_z}
+use mathlib.Core.Path.{refl, ap₂, ◌∙◌}
+use native.Mathlib.Omega.{arith}
+use lib.IntN.{pos}
 use lib.Signed.{lt_z}
-use Rattle.listing.proofs.Cells.{rises_is}
+use Rattle.listing.proofs.Cells.{read_back, rises_is}
 use Rattle.listing.proofs.heights.rises.Goals as goal
 
 pub returns : goal.returns
 returns c =
-    let z = to_z-of_z w16 _ (record { sfits = c.weight_at.type_inv }) ∙ c.weight_at.ensures in
-    let u = to_z-of_z w16 _ (record { sfits = c.counted.type_inv }) ∙ c.counted.ensures in
-    c.is_less.ensures ∙ ap₂ lt_z u z ∙ rises_is c.args.w c.args.h c.args.weights.now c.args.table.now c.requires.standing c.args.x c.args.y c.requires.y_lt_h.1 c.requires.y_lt_h.0 c.args.u
+    ap₂ lt_z (read_back {z = pos c.args.height} (omega arith) refl) (read_back c.weight.type_inv c.weight.ensures)
+    ∙ rises_is _ _ _ _ c.args.surface.now.standing _ _ c.requires.x_lt_w c.requires.y_lt_h c.args.height

@@ -6,7 +6,6 @@ use Rattle.listing.specs.Listed.{support}
 use Rattle.listing.proofs.heights.settle.Given as goal
 
 abbrev pub invariant-loop-c : goal.invariant-loop-c
-invariant-loop-c l = (l.lo ≤ l.c) × (l.c ≤ l.x) × (reach (support (occupied l.table) l.w l.h l.y) l.x ≡ reach (support (occupied l.table) l.w l.h l.y) l.c)
-
-abbrev pub decreases-loop-c : goal.decreases-loop-c
-decreases-loop-c l = l.c
+invariant-loop-c l =
+    let held = support (occupied l.surface.table.now) l.surface.w l.surface.h l.y in
+    record { from : l.lo ≤ l.c; same : reach held l.x ≡ reach held l.c }

@@ -1,13 +1,14 @@
 -- `requests::run::run_on` meets its contract. Assumes nothing.
+use Rattle.std.proofs.Common.{Bor, cond}
 use mathlib.Core.Path.{◌≡◌, sym, ap, subst₂, ◌∙◌}
 use mathlib.Core.List.{List}
 use Prim.Native.Nat.{ℕ, suc, ◌<◌}
 use native.Mathlib.Omega.{arith}
+use borrow.Author.Rules.{rules}
 use borrow.Author.Tests.{ltb-true}
 use lib.ListN.{length}
-use Rattle.std.proofs.Common.{Bor}
 use Rattle.requests.specs.Steps.{ServedAt}
-use Rattle.requests.proofs.Turns.{ran_none, ran_suc}
+use Rattle.requests.proofs.Turns.{ran_none, ran_suc, bit}
 use Rattle.requests.proofs.run.run_on.Goals as goal
 
 pub loop-r-init : goal.loop-r-init
@@ -17,7 +18,8 @@ loop-r-init c =
       0,
       c.begin-r.ensures.1,
       omega arith,
-      ran_none a.w a.h a.s.now a.t.now a.q.now a.a.now c.requires.standing,
+      search rules,
+      ran_none a.w a.h a.s.now a.t.now a.q.now a.a.now,
     )
 
 pub loop-r-preserved : goal.loop-r-preserved
@@ -25,13 +27,16 @@ loop-r-preserved c =
     let a = c.args in
     let l = c.loop-r in
     let i = l.invariant in
+    let k = i.4 in
     let b : length l.r.block.now ≡ length a.q.now = ap length i.0 in
     let less : l.r.at < length l.r.block.now = ltb-true _ _ (sym c.loop-r-test.ensures) in
-    let n = c.serve_next-done in
-    let served = subst₂ (λ b at. ServedAt a.w a.h b at l.s l.t l.a n.new.s n.new.t n.new.a n.result) i.0 i.2 n.ensures in (
+    let n = c.serve_next in
+    let m = n.new.surface in
+    let served = subst₂ (λ b at. ServedAt a.w a.h b at l.surface.weights.now l.surface.table.now l.a m.weights.now m.table.now n.new.a (cond n.result 1 0)) i.0 i.2 (rw (k.w, k.h) at n.ensures.served) in (
       ap (λ (b : Bor (List ℕ)). b.now) c.next-r.ensures.0 ∙ i.0,
       suc i.1,
       omega (arith, c.next-r.ensures.1, i.2),
       omega (arith, less, b, i.2, c.requires.q_len.0),
-      ran_suc a.w a.h a.s.now a.t.now a.q.now a.a.now i.1 l.s l.t l.a n.new.s n.new.t n.new.a l.done n.result i.4 served,
+      search rules,
+      rw (c.from-done.ensures, bit n.result) (ran_suc a.w a.h a.s.now a.t.now a.q.now a.a.now i.1 l.surface.weights.now l.surface.table.now l.a m.weights.now m.table.now n.new.a l.done (cond n.result 1 0) i.5 served),
     )

@@ -1,6 +1,6 @@
 use mathlib.Core.Path.{◌≡◌}
 use mathlib.Core.Bool.{true}
-use Prim.Native.Nat.{ℕ, ◌+◌, ◌*◌, ◌≤◌, ◌<◌, ◌-◌}
+use Prim.Native.Nat.{ℕ, ◌+◌, ◌*◌, ◌<◌, ◌-◌}
 use lib.IntN.{pos, neg_ℤ}
 use Rattle.cells.proofs.Laws.{open_at, open_row}
 use Rattle.surface.specs.Rows.{RowWritten}
@@ -14,13 +14,9 @@ given x mw c = x + mw - c
 -- in a row: m₀ is the scratch before it
 abbrev pub invariant-loop-i : goal.invariant-loop-i
 invariant-loop-i l =
-    (l.i ≤ l.mw) × (l.free ≡ true) × RowWritten l.initial.m l.m ((l.y + l.j) * l.w + l.x) l.i (λ k. neg_ℤ (pos (given l.x l.mw (l.x + k)))) × ((k : ℕ) → k < l.i → open_at l.w l.initial.m (l.x + k) (l.y + l.j) ≡ true)
-
-abbrev pub decreases-loop-i : goal.decreases-loop-i
-decreases-loop-i l = l.mw - l.i
+    let r = l.r in
+    (l.free ≡ true) × RowWritten l.initial.m l.m ((r.y + l.j) * l.w + r.x) l.i (λ k. neg_ℤ (pos (given r.x r.w (r.x + k)))) × ((k : ℕ) → k < l.i → open_at l.w l.initial.m (r.x + k) (r.y + l.j) ≡ true)
 
 abbrev pub invariant-rows : goal.invariant-rows
-invariant-rows l = (l.j ≤ l.mh) × (l.free ≡ true) × Marked l.w l.initial.m l.m l.x l.y l.mw l.j (given l.x l.mw) × ((k : ℕ) → k < l.j → open_row l.w l.initial.m l.x l.y l.mw k ≡ true)
-
-abbrev pub decreases-rows : goal.decreases-rows
-decreases-rows l = l.mh - l.j
+invariant-rows l =
+    let r = l.r in (l.free ≡ true) × Marked l.w l.initial.m l.m r.x r.y r.w l.j (given r.x r.w) × ((k : ℕ) → k < l.j → open_row l.w l.initial.m r.x r.y r.w k ≡ true)

@@ -1,2 +1,0 @@
--- Laws on plain values.
-pub mod Laws
