@@ -11,7 +11,7 @@ ghost use Rattle.requests.specs.declared.operation.Operation.TheVariants.{Place}
 use super::accepted::Accepted;
 use super::fields::{byte, id_asked, pinned};
 use super::operation::Operation;
-use super::sound::{check_form, check_id};
+use super::sound::{check_form, check_slot};
 use cells::standing::Surface;
 use choice::{Rule, Wanted, choose};
 use rules::{Rect, Refusal};
@@ -92,7 +92,7 @@ pub fn judge(surface: &Surface, q: &[u8]) -> Result<Accepted, Refusal>
 {
     let operation = check_form(q)?;
     let slot = table::slot_of(surface.table, id_asked(q));
-    check_id(surface.table, q, slot)?;
+    check_slot(surface.table, q, slot)?;
     match operation {
         Operation::Place => judge_place(surface, q),
         // nothing else can refuse it

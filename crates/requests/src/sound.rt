@@ -45,7 +45,7 @@ pub fn check_form(q: &[u8]) -> Result<Operation, Refusal>
 }
 
 // The first of the codes 15, 16, 23 and 17 that applies; `slot` is that of the request's id. An operation that there is not has none of them.
-pub fn check_id(t: &[u8], q: &[u8], slot: Option<usize>) -> Result<(), Refusal>
+pub(crate) fn check_slot(t: &[u8], q: &[u8], slot: Option<usize>) -> Result<(), Refusal>
     requires lengths { (length t.now ≡ 8 * slots t.now) × (length q.now ≡ 8) }
     requires inside { IfSome slot (λ i. i < slots t.now) }
     ensures { result_code result ≡ first (id_lines t.now q.now (slot_or (slots t.now) slot)) }
@@ -68,4 +68,15 @@ pub fn check_id(t: &[u8], q: &[u8], slot: Option<usize>) -> Result<(), Refusal>
         return Err(Refusal::NoSize);
     }
     Ok(())
+}
+
+// The same for any number: one that is no slot of the table counts as none. (Judging has the slot from the table: asked again here, it would cost an instruction a slot.)
+pub fn check_id(t: &[u8], q: &[u8], slot: Option<usize>) -> Result<(), Refusal>
+    requires { (length t.now ≡ 8 * slots t.now) × (length q.now ≡ 8) }
+    ensures { result_code result ≡ first (id_lines t.now q.now (slot_or (slots t.now) slot)) }
+{
+    match slot {
+        Some(i) if t.len() / 8 <= i => check_slot(t, q, None),
+        _ => check_slot(t, q, slot),
+    }
 }

@@ -1,4 +1,4 @@
--- `requests::sound::check_id` meets its contract. Assumes nothing.
+-- `requests::sound::check_slot` meets its contract. Assumes nothing.
 use Rattle.std.proofs.Common.{◌≡◌, refl, sym, ap, ap₂, ◌∙◌, true, false, true≢false, not, ltb, eqb}
 use mathlib.Core.Bool.{◌&&◌, ◌||◌, and-false}
 use borrow.Author.Tests.{eq-eqb, ne_eqb}
@@ -8,8 +8,8 @@ use Rattle.std.specs.Option.{is_some}
 use Rattle.table.specs.Slot.{slot_or}
 use Rattle.meaning.proofs.First.{first_here, first_past, first_end}
 use Rattle.requests.proofs.Lines.{found, none_asked}
-use Rattle.requests.proofs.sound.check_id.Goals as goal
-use Rattle.requests.proofs.sound.check_id.Goals.{Joined-else-makes_new, else-makes_new-via-then-makes_new+else-is_some, else-makes_new-via-else-makes_new, Joined-needs_old, then-needs_old+in-Some+else-is_block, else-needs_old, Joined-q-eq0, Joined-else-has_size, else-has_size-via-then-has_size+else-q-eq0-2, then-q-eq0, else-q-eq0, else-has_size-via-else-has_size}
+use Rattle.requests.proofs.sound.check_slot.Goals as goal
+use Rattle.requests.proofs.sound.check_slot.Goals.{Joined-else-makes_new, else-makes_new-via-then-makes_new+else-is_some, else-makes_new-via-else-makes_new, Joined-needs_old, then-needs_old+in-Some+else-is_block, else-needs_old, Joined-q-eq0, Joined-else-has_size, else-has_size-via-then-has_size+else-q-eq0-2, then-q-eq0, else-q-eq0, else-has_size-via-else-has_size}
 
 -- 15 does not apply
 no_15 : (c : Joined-else-makes_new) → (makes_new c.args.q.now && ltb (slot_or (slots c.args.t.now) c.args.slot) (slots c.args.t.now)) ≡ false
