@@ -20,10 +20,15 @@ use Rattle.rules.specs.declared.Rect.{Rect}
 use Rattle.listing.specs.declared.entry.Entry.{Entry}
 use Rattle.listing.specs.Listed.{no_entry, entry_rect, rects_in, listed}
 use Rattle.listing.proofs.ListLaws.{entries_listed}
-use Rattle.choice.specs.Best.{choice_of, found, better, best_of}
+use Rattle.choice.specs.Best.{choice_of, code_of, values_of, Chosen, found, better, best_of}
 use Rattle.choice.specs.declared.Best.{Best}
 use Rattle.choice.specs.declared.Wanted.{Wanted}
 use Rattle.choice.specs.Rule.{rule_number}
+
+-- a choice by its number and its values
+pub chosen_by : (o : maybe.Option Rect) (c : Option Rect) → c ≡ choice_of o → Chosen o c
+chosen_by maybe.none c e = record { code = ap code_of e; values = ap values_of e }
+chosen_by (maybe.some r) c e = record { code = ap code_of e; values = ap values_of e }
 
 -- the place of the best so far
 abbrev pub place_in : Option Best → Option Rect

@@ -5,7 +5,7 @@ ghost use Rattle.std.specs.Prelude.{◌≡◌, true, false, ℕ, ◌+◌, ◌≤
 ghost use Rattle.rules.specs.Surface.{occupied};
 ghost use Rattle.rules.specs.Requests.{fits, cost as cost_of, rule_place};
 ghost use Rattle.listing.specs.Listed.{entry_rect, rects_in, Drawn};
-ghost use Rattle.choice.specs.Best.{better, best_of, choice_of};
+ghost use Rattle.choice.specs.Best.{better, best_of, choice_of, Chosen};
 ghost use Rattle.choice.specs.Room.{none_fits};
 ghost use Rattle.choice.specs.Rule.{rule_number};
 
@@ -163,7 +163,8 @@ fn best_row(
 // The place for a module that its rule chooses: the scanned rows in turn. A row that is not scanned has no entry. An entry that costs nothing is the
 // choice: "Ties go to the earlier entry."
 pub fn choose(surface: &Surface, wanted: Wanted) -> Option<Rect>
-    ensures { result ≡ choice_of (rule_place (occupied surface.now.table.now) surface.now.w surface.now.h (rule_number wanted.rule) wanted.w wanted.h) }
+    ensures place { result ≡ choice_of (rule_place (occupied surface.now.table.now) surface.now.w surface.now.h (rule_number wanted.rule) wanted.w wanted.h) }
+    ensures chosen { Chosen (rule_place (occupied surface.now.table.now) surface.now.w surface.now.h (rule_number wanted.rule) wanted.w wanted.h) result }
 {
     let mut scans = [false; 64];
     scanned_rows(surface.h, surface.table, &mut scans);

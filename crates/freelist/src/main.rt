@@ -2,8 +2,8 @@
 // read, in pieces of any size, and the answers and the list printed.
 #![tactic(auto)]
 
-ghost use Rattle.std.specs.Prelude.{◌≡◌, ◌≤◌, length, take};
-ghost use Rattle.stream.specs.Memory.{SoFarIn};
+ghost use Rattle.std.specs.Prelude.{◌≡◌, ◌*◌, ◌/◌, ◌≤◌, length, take};
+ghost use Rattle.stream.specs.Memory.{kept_in, AllServedIn, SoFarIn};
 
 use std::io;
 use std::io::{Read, Write};
@@ -51,6 +51,15 @@ fn read_on<R: Read>(input: &mut R, q: &mut [u8], held: usize) -> usize
     held + input.read(&mut q[held..]).unwrap_or(0)
 }
 
+// The whole records among the first n bytes are served; their answers stand at the start of `answers`.
+fn serve_piece(memory: &mut Memory, piece: &[u8], n: usize, answers: &mut [u8])
+    requires { (n ≤ length piece.now) × (length piece.now ≡ 4096) × (length answers.old ≡ 4096) }
+    ensures { AllServedIn (take (8 * (n / 8)) piece.now) (kept_in memory.old) memory.new (take (8 * (n / 8)) answers.new) }
+{
+    let m = whole(n);
+    memory.serve(&piece[..m], &mut answers[..m]);
+}
+
 // The end of the output, after some reads; `left` has the bytes that are held then.
 fn finish<W: Write>(out: &mut W, memory: &Memory, left: &[u8]) -> io::Result<()>
     requires { SoFarIn memory.now left.now }
@@ -72,9 +81,8 @@ fn run<R: Read, W: Write>(input: &mut R, out: &mut W) -> io::Result<()> {
         if n == held {
             break;
         }
-        let m = whole(n);
-        memory.serve(&piece[..m], &mut answers[..m]);
-        answer_lines(out, &answers[..m])?;
+        serve_piece(&mut memory, &piece, n, &mut answers);
+        answer_lines(out, &answers[..whole(n)])?;
         held = carry(&mut piece, n);
     }
     finish(out, &memory, &piece[..held])

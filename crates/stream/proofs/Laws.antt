@@ -86,6 +86,10 @@ module _ (q : List ℕ) (z : Kept) where
 
 -- ---- which are served by themselves
 
+pub apart_is : (w : ℕ) (q : List ℕ) (b : Bool) → eqb w 0 ≡ b → b || is_clear q ≡ apart w q
+unfolding apart
+apart_is w q b e = sym (ap (λ x. x || is_clear q) e)
+
 pub other : (q : List ℕ) → is_clear q ≡ false → operation q ≡ 5 → ⊥
 other q = eqb-false (operation q) 5
 
@@ -97,8 +101,7 @@ apart_none (Some z) q e = not_both true refl e
 
 -- then a clear
 apart_on : (z : Size) (q : List ℕ) → is_clear q ≡ apart z.columns q
-unfolding apart
-apart_on z q = sym (ap (λ x. x || is_clear q) (ne_eqb z.columns 0 (λ n. omega (arith, z.sides.wide))))
+apart_on z q = apart_is z.columns q false (ne_eqb z.columns 0 (λ n. omega (arith, z.sides.wide)))
 
 pub apart_some : (o : Option Size) (q : List ℕ) (b : Bool) → is_some o ≡ true → b ≡ is_clear q → b ≡ apart (columns_of o) q
 apart_some None q b e f = not_both false e refl
@@ -177,8 +180,8 @@ refused_served q w h s t a c e f r ea = record { holds = held (next_record q (ke
 
 -- ---- on a surface
 
-pub on_size : (o : Option Size) (z : Size) (s : List ℤ) (t : List ℕ) → o ≡ Some z → Ready (columns_of o) (rows_of o) s t → Ready z.columns z.rows s t
-on_size o z s t e r = subst (λ o. Ready (columns_of o) (rows_of o) s t) e r
+pub on_size : (o : Option Size) (h : ℕ) (z : Size) (s : List ℤ) (t : List ℕ) → o ≡ Some z → Ready (columns_of o) (rows_of o h) s t → Ready z.columns z.rows s t
+on_size o h z s t e r = subst (λ o. Ready (columns_of o) (rows_of o h) s t) e r
 
 pub stands_on : (z : Size) (s : List ℤ) (t : List ℕ) → Ready z.columns z.rows s t → Standing z.columns z.rows (take (z.columns * z.rows) s) t
 stands_on z s t r = r.stands (λ n. omega (arith, z.sides.wide))

@@ -37,7 +37,7 @@ unfolding listing
 counted W H s t room r d e er = er ∙ ap (λ b. cond b (Err RoomShort) (Ok (record { entries = length (entries_of W H t); corners = corners W H t }))) (takes W H s t room d e).1
 
 -- on the surface that is kept
-module _ (o : Option Size) (z : Size) (s : List ℤ) (t room : List ℕ) (r : Result Counts Refusal) (e : o ≡ Some z) (y : Ready (columns_of o) (rows_of o) s t) (l : length room ≡ 32768)
+module _ (o : Option Size) (h : ℕ) (z : Size) (s : List ℤ) (t room : List ℕ) (r : Result Counts Refusal) (e : o ≡ Some z) (y : Ready (columns_of o) (rows_of o h) s t) (l : length room ≡ 32768)
     (er : r ≡ listing z.columns z.rows t room) where
   abbrev W : ℕ
   W = z.columns
@@ -46,12 +46,12 @@ module _ (o : Option Size) (z : Size) (s : List ℤ) (t room : List ℕ) (r : Re
   H = z.rows
 
   stands : Standing W H (take (W * H) s) t
-  stands = stands_on z s t (on_size o z s t e y)
+  stands = stands_on z s t (on_size o h z s t e y)
 
   pub is_counted : IsOk r
   is_counted = subst⁻¹ IsOk (counted W H (take (W * H) s) t room r stands l er) refl
 
-  pub listed_some : (k : Counts) (room' : List ℕ) → r ≡ Ok k → room' ≡ listed_room W H t room → length room' ≡ length room → ListedBy (kept (columns_of o) (rows_of o) s t) room k.entries k.corners room'
+  pub listed_some : (k : Counts) (room' : List ℕ) → r ≡ Ok k → room' ≡ listed_room W H t room → length room' ≡ length room → ListedBy (kept (columns_of o) (rows_of o h) s t) room k.entries k.corners room'
   unfolding listed_room
   listed_some k room' ek em lo =
       let p = takes W H (take (W * H) s) t room stands l in
@@ -60,7 +60,7 @@ module _ (o : Option Size) (z : Size) (s : List ℤ) (t room : List ℕ) (r : Re
       let g : k ≡ n = cc f in
       let u = ne_eqb W 0 (λ w. omega (arith, z.sides.wide)) in
       let ge : k.entries ≡ length (entries_of W H t) = ap (λ (k : Counts). k.entries) g in
-      subst⁻¹ (λ o. ListedBy (kept (columns_of o) (rows_of o) s t) room k.entries k.corners room') e (record {
+      subst⁻¹ (λ o. ListedBy (kept (columns_of o) (rows_of o h) s t) room k.entries k.corners room') e (record {
         entries = ge ∙ rw u;
         corners = ap (λ (k : Counts). k.corners) g ∙ rw u;
         written = em ∙ ap (λ b. cond b room (room_after W H t room)) p.1 ∙ rw u;

@@ -4,13 +4,15 @@ ghost use Rattle.stream.specs.Promise.{Ready};
 
 use super::size::Size;
 
-// The size of the surface, once there is one; as many weights as the largest has, the surface's from their start; and the table.
+// The size of the surface, once there is one, and H while there is none: W is 0 then, and H any number; as many weights as the largest surface has, its own from their
+// start; and the table.
 #[derive(Debug, Drop)]
 pub struct Memory {
     pub size: Option<Size>,
+    pub rows: usize,
     pub weights: [i16; 4096],
     pub table: [u8; 2048],
-    ghost ready: { Ready (columns_of size) (rows_of size) weights table },
+    ghost ready: { Ready (columns_of size) (rows_of size rows) weights table },
 }
 
 impl Memory {
@@ -24,6 +26,7 @@ impl Memory {
     {
         Memory {
             size: None,
+            rows: 0,
             weights: [0; 4096],
             table: [0; 2048],
         }

@@ -52,6 +52,14 @@ fn clear_to(size: Size, room: &mut [i16], table: &mut [u8])
     free_slots(table);
 }
 
+// A clear is served by itself, and so is any record before there is a surface, when W is 0.
+pub fn apart(w: usize, q: &[u8]) -> bool
+    requires { 1 ≤ length q.now }
+    ensures { result ≡ apart w q.now }
+{
+    w == 0 || is_clear(q)
+}
+
 impl Memory {
     // Operation 5. Refused, it leads straight to its answer; "accepted, the answer has x = y = 0 and w, h as W, H".
     fn serve_clear(&mut self, q: &[u8], a: &mut [u8])
@@ -74,7 +82,7 @@ impl Memory {
         }
     }
 
-    // A clear is served by itself, and so is any record before there is a surface.
+    // The same of what is kept.
     pub fn is_apart(&self, q: &[u8]) -> bool
         requires { 1 ≤ length q.now }
         ensures { result ≡ apart (columns_of self.now.size) q.now }

@@ -115,8 +115,8 @@ pub fn lowest_free(t: &[u8]) -> Option<usize>
     slots.iter().position(|slot| slot_free(slot, 0))
 }
 
-// Eight bytes, one behind the other: a record of the table or an answer. Store by store: `copy_from_slice` puts the bytes together as one number
-// first, at three instructions a byte.
+// Eight bytes, one behind the other: a record of the table, of the list or an answer. Store by store: `copy_from_slice` puts the bytes together as one
+// number first, at three instructions a byte.
 pub fn put_eight(a: &mut [u8], bytes: [u8; 8])
     requires { length a.old ≡ 8 }
     ensures { a.new ≡ bytes }

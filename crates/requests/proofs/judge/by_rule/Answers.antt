@@ -21,7 +21,7 @@ place w h t q = rule_place (occupied t) w h (rule_of q) (wide q) (high q)
 
 chose : (c : After-choose) → let s = c.args.surface.now in c.choose.result ≡ choice_of (place s.w s.h s.table.now c.args.q.now)
 chose c = let s = c.args.surface.now in
-    c.choose.ensures ∙ chose_same _ _ _ _ _ _ _ _ _ (c.from_number.ensures ∙ c.byte.ensures.0) c.byte-2.ensures.0 c.byte-3.ensures.0
+    c.choose.ensures.place ∙ chose_same _ _ _ _ _ _ _ _ _ (c.from_number.ensures ∙ c.byte.ensures.0) c.byte-2.ensures.0 c.byte-3.ensures.0
 
 -- what an entry's place is told by
 record Placed (c : In_ok-rect) : Type 0 where
