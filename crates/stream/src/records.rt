@@ -82,7 +82,7 @@ impl Memory {
         }
     }
 
-    // The same of what is kept.
+    // What `apart` says, of what is kept.
     pub fn is_apart(&self, q: &[u8]) -> bool
         requires { 1 ≤ length q.now }
         ensures { result ≡ apart (columns_of self.now.size) q.now }
